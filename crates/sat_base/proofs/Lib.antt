@@ -1,0 +1,4 @@
+pub mod Members
+pub mod Opposite
+pub mod Ascending
+pub mod Entailment
