@@ -1,0 +1,3 @@
+pub mod Greatest
+pub mod Place
+pub mod Short
