@@ -1,0 +1,11 @@
+//! Where bytes come from and where they go: sources and sinks whose failed calls are counted.
+//! The layer above uses the clauses of `Source` and `Sink`, the three things that a source means (what is
+//! left, its count of faults, whether it has ended), the two of a sink (what it took, its count of faults), and `write_all`.
+//! Nothing here knows what the bytes say: no format, no job, no verdict.
+#![tactic(auto)]
+
+mod outside;
+mod pieces;
+
+pub use outside::{Failed, Sink, Source};
+pub use pieces::write_all;
