@@ -15,7 +15,11 @@ appended (Some taken) bytes = Some (taken ++ bytes)
 abbrev pub IsEmptyWhereTold : Option (List ℕ) → Type 0
 IsEmptyWhereTold left = IfSome left (λ bytes. bytes ≡ [])
 
--- a read of a buffer of this length has answered `Ok(0)` although there was room
+-- a read that gave so many bytes into this much room has found the end
+abbrev pub is_end_at : ℕ → ℕ → Bool
+is_end_at count room = nat_eq count 0 && nat_lt 0 room
+
+-- a read into this much room has answered `Ok(0)` although there was room
 abbrev pub is_end : {E : Type 0} → Result ℕ E → ℕ → Bool
-is_end (Ok count) room = nat_eq count 0 && nat_lt 0 room
+is_end (Ok count) room = is_end_at count room
 is_end (Err fault) room = false

@@ -1,2 +1,5 @@
 pub mod Bytes
 pub mod Fault
+pub mod MemorySinkState
+pub mod MemorySourceState
+pub mod Script

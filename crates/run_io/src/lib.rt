@@ -4,8 +4,13 @@
 //! Nothing here knows what the bytes say: no format, no job, no verdict.
 #![tactic(auto)]
 
+mod memory_sink;
+mod memory_source;
 mod outside;
 mod pieces;
+mod script;
 
+pub use memory_sink::MemorySink;
+pub use memory_source::MemorySource;
 pub use outside::{Failed, Sink, Source};
 pub use pieces::write_all;

@@ -1,6 +1,6 @@
-//! Whole pieces over a sink that may take them in parts.
+//! Pieces that are given or taken in parts.
 ghost use Rattle.std.specs.Prelude.{◌≡◌, ◌<◌, ℕ, length, take, OnErr, OnOk};
-ghost use Rattle.run_io.specs.Bytes.{appended};
+ghost use Rattle.run_io.specs.Bytes.{appended, is_end_at};
 ghost use Rattle.run_io.specs.Fault.{HasCause};
 
 use crate::{Failed, Sink};
@@ -20,4 +20,11 @@ pub fn write_all<O: Sink>(out: &mut O, piece: &[u8]) -> Result<(), Failed>
         at += out.write(&piece[at..])?;
     }
     Ok(())
+}
+
+/// Whether a read that gave so many bytes into this much room has found the end.
+pub(crate) fn finds_end(count: usize, room: usize) -> bool
+    ensures { result ≡ is_end_at count room }
+{
+    count == 0 && room > 0
 }
