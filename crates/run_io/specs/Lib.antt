@@ -3,3 +3,4 @@ pub mod Fault
 pub mod MemorySinkState
 pub mod MemorySourceState
 pub mod Script
+pub mod StdSourceState

@@ -9,8 +9,13 @@ mod memory_source;
 mod outside;
 mod pieces;
 mod script;
+mod std_sink;
+mod std_source;
+mod system;
 
 pub use memory_sink::MemorySink;
 pub use memory_source::MemorySource;
 pub use outside::{Failed, Sink, Source};
 pub use pieces::write_all;
+pub use std_sink::StdSink;
+pub use std_source::StdSource;
