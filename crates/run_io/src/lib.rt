@@ -19,3 +19,6 @@ pub use outside::{Failed, Sink, Source};
 pub use pieces::write_all;
 pub use std_sink::StdSink;
 pub use std_source::StdSource;
+
+#[cfg(test)]
+mod tests;

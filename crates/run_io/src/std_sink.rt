@@ -2,7 +2,7 @@
 ghost use Rattle.std.specs.Prelude.{◌≡◌, ◌<◌, ◌≤◌, None, IfOk, OnErr, length};
 ghost use Rattle.run_io.specs.Fault.{one_more, HasCause};
 
-use crate::system::counted_answer;
+use crate::system::{counted_answer, write_some};
 use crate::{Failed, Sink};
 use std::io;
 use std::io::Write;
@@ -45,7 +45,7 @@ impl<'a, P: Print> Sink for StdSink<'a, P> {
         ensures cause { HasCause self.old self.new result }
         ensures counted { OnErr result (self.new ≡ one_more self.old) }
     {
-        let answer = write_some(self.rt, piece);
+        let answer = write_some(&mut io::writer(self.rt), piece);
         counted_answer(answer, &mut self.faults)
     }
 
@@ -53,19 +53,7 @@ impl<'a, P: Print> Sink for StdSink<'a, P> {
         ensures cause { HasCause self.old self.new result }
         ensures counted { OnErr result (self.new ≡ one_more self.old) }
     {
-        let answer = io::writer(self.rt).flush();
+        let answer = io::writer(self.rt).flush().map_err(|_| Failed);
         counted_answer(answer, &mut self.faults)
-    }
-}
-
-/// One write, which takes at least one byte of a piece that isn't empty.
-fn write_some<P: Print>(rt: &P, piece: &[u8]) -> Result<usize, Failed>
-    ensures count { IfOk result (λ n. n ≤ length piece.now) }
-    ensures some { IfOk result (λ n. 0 < length piece.now → 0 < n) }
-{
-    match io::writer(rt).write(piece) {
-        Ok(0) if !piece.is_empty() => Err(Failed),
-        Ok(count) => Ok(count),
-        Err(_) => Err(Failed),
     }
 }

@@ -3,14 +3,13 @@ ghost use Rattle.std.specs.Prelude.{◌≡◌, ◌<◌, ◌≤◌, ◌||◌, Boo
 ghost use Rattle.run_io.specs.Bytes.{followed_by, is_end, IsEmptyWhereTold};
 ghost use Rattle.run_io.specs.Fault.{one_more, HasCause};
 
-use crate::system::counted_answer;
 use crate::pieces::finds_end;
+use crate::system::{counted_answer, read_some};
 use crate::{Failed, Source};
-use std::fs;
-use std::io;
 use std::io::Read;
 use std::marker::Model;
 use std::rt::Files;
+use std::{fs, io};
 
 /// A source over a named file or standard input. It tells no bytes, since nobody knows what the system will give,
 /// and counts each fault that it answers; the count stands still at the last number of a `u64`.
@@ -71,7 +70,7 @@ impl<'a, R: Files + Input> Source for StdSource<'a, R> {
         self.input = None;
         let input = match name {
             None => Opened::Input(self.rt.reader()),
-            Some(path) => Opened::File(counted_answer(fs::open(self.rt, path), &mut self.faults)?),
+            Some(path) => Opened::File(counted_answer(open_file(self.rt, path), &mut self.faults)?),
         };
         self.input = Some(input);
         Ok(())
@@ -104,24 +103,11 @@ fn read_opened<F: Read, I: Read>(
 {
     match input {
         None => Err(Failed),
-        Some(Opened::File(file)) => read_retrying(file, buf),
-        Some(Opened::Input(reader)) => read_retrying(reader, buf),
+        Some(Opened::File(file)) => read_some(file, buf),
+        Some(Opened::Input(reader)) => read_some(reader, buf),
     }
 }
 
-/// One read, tried again where a signal interrupts it.
-fn read_retrying<R: Read>(reader: &mut R, buf: &mut [u8]) -> Result<usize, Failed>
-    ensures { IfOk result (λ n. n ≤ length buf.old) }
-{
-    for _ in 0..u64::MAX {
-        match reader.read(buf) {
-            Ok(count) => return Ok(count),
-            Err(fault) => {
-                if fault.kind() != io::ErrorKind::Interrupted {
-                    return Err(Failed);
-                }
-            }
-        }
-    }
-    Err(Failed)
+fn open_file<R: Files>(rt: &R, path: &str) -> Result<R::File, Failed> {
+    fs::open(rt, path).map_err(|_| Failed)
 }

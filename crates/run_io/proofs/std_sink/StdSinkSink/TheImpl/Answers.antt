@@ -5,8 +5,9 @@ use Rattle.run_io.proofs.std_sink.StdSinkSink.TheImpl.Goals as goal
 
 pub write-tells : goal.write-tells
 write-tells g c = record {
-    count = c.ensures.count;
-    some = c.ensures.some;
-    bytes = after_ok c.result _ (λ n. refl);
-    err = after_err c.result _ refl;
-    cause = c.ensures.cause; }
+  count = c.ensures.count;
+  some = c.ensures.some;
+  bytes = after_ok c.result _ (λ n. refl);
+  err = after_err c.result _ refl;
+  cause = c.ensures.cause;
+}
