@@ -1,6 +1,6 @@
 //! A source over a named file or standard input.
-ghost use Rattle.std.specs.Prelude.{◌≡◌, ◌<◌, ◌≤◌, ◌||◌, Bool, false, true, None, Option, IfOk, IsErr, OnErr, OnOk, is_some, length, take};
-ghost use Rattle.run_io.specs.Bytes.{followed_by, is_end, IsEmptyWhereTold};
+ghost use Rattle.std.specs.Prelude.{◌≡◌, ◌≤◌, ◌||◌, false, true, None, IfNone, IfOk, IsErr, IsOk, OnErr, OnOk, is_some, length};
+ghost use Rattle.run_io.specs.Bytes.{is_end};
 ghost use Rattle.run_io.specs.Fault.{one_more, HasCause};
 
 use crate::pieces::finds_end;
@@ -63,6 +63,7 @@ impl<'a, R: Files + Input> Source for StdSource<'a, R> {
     fn start(&mut self, name: Option<&str>) -> Result<(), Failed>
         ensures ended { self.new.ended ≡ self.old.ended }
         ensures cause { HasCause self.old.faults self.new.faults result }
+        ensures standard_input { IfNone name.entry (IsOk result) }
         ensures opened { OnOk result (self.new.is_open ≡ true) }
         ensures closed { OnErr result (self.new.is_open ≡ false) }
         ensures counted { OnErr result (self.new.faults ≡ one_more self.old.faults) }

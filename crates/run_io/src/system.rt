@@ -1,5 +1,5 @@
 //! Single calls on the system, and the count of their faults.
-ghost use Rattle.std.specs.Prelude.{◌≡◌, ◌<◌, ◌≤◌, ◌⊎◌, IfOk, IfSome, IsErr, MatchResult, Ok, OnErr, OnOk, length};
+ghost use Rattle.std.specs.Prelude.{◌≡◌, ◌<◌, ◌≤◌, IfOk, IfSome, OnErr, length};
 ghost use Rattle.run_io.specs.Fault.{one_more, HasCause};
 
 use crate::Failed;
