@@ -1,6 +1,6 @@
 //! Where bytes come from and where they go: sources and sinks whose failed calls are counted.
-//! The layer above uses the clauses of `Source` and `Sink`, the three things that a source means (what is
-//! left, its count of faults, whether it has ended), the two of a sink (what it took, its count of faults), and `write_all`.
+//! The layer above uses the clauses of `Source` and `Sink`, which speak of a source's bytes still to come, its count of
+//! faults and whether it has ended, and of a sink's bytes taken and its count of faults; and that of `write_all`.
 //! Nothing here knows what the bytes say: no format, no job, no verdict.
 #![tactic(auto)]
 

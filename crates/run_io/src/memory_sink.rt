@@ -10,8 +10,8 @@ use crate::{Failed, Sink};
 use std::alloc::{AllocError, Global};
 use std::marker::Model;
 
-/// A sink that keeps what it takes, up to a fixed room, and fails at planned calls. Its room is there from the start,
-/// so that no write takes memory.
+/// A sink that keeps what it takes, up to a fixed room, and fails at planned calls. Its room is there from the
+/// start, so that no write takes memory.
 #[derive(Drop)]
 pub struct MemorySink {
     bytes: Vec<u8>,
@@ -26,14 +26,20 @@ impl Model for MemorySink {
 
     ghost Value = { SinkState };
 
-    ghost view = { λ a. record { taken = a.bytes.items; room = a.room; most = a.most; script = a.script } };
+    ghost view = { λ a. record {
+      taken = a.bytes.items;
+      room = a.room;
+      most = a.most;
+      script = a.script;
+    } };
 
     ghost invariant = { λ a. (length a.bytes.items ≤ a.room) × (a.room ≤ vec_capacity a.bytes) };
 }
 
 impl MemorySink {
     /// Takes at most `most` bytes at a write (0 counts as 1) and `room` bytes in all; a write of a piece that isn't
-    /// empty fails where the room is used up. The calls of `write` and `flush` are numbered from 1; those in `fail` fail.
+    /// empty fails where the room is used up. The calls of `write` and `flush` are numbered from 1, and those in
+    /// `fail` fail.
     ///
     /// # Errors
     ///
@@ -44,7 +50,12 @@ impl MemorySink {
         most: usize,
         fail: Vec<u64>,
     ) -> Result<MemorySink, AllocError>
-        ensures { IfOk result (λ sink. sink ≡ record { taken = []; room = room; most = most; script = new_script fail.items }) }
+        ensures { IfOk result (λ sink. sink ≡ record {
+          taken = [];
+          room = room;
+          most = most;
+          script = new_script fail.items;
+        }) }
     {
         let bytes = Vec::with_capacity(alloc, room)?;
         Ok(MemorySink {
@@ -73,7 +84,8 @@ impl Sink for MemorySink {
     fn write(&mut self, piece: &[u8]) -> Result<usize, Failed>
         ensures count { IfOk result (λ n. n ≤ length piece.now) }
         ensures some { IfOk result (λ n. 0 < length piece.now → 0 < n) }
-        ensures bytes { IfOk result (λ n. Some self.new.taken ≡ appended (Some self.old.taken) (take n piece.now)) }
+        ensures bytes { IfOk result
+            (λ n. Some self.new.taken ≡ appended (Some self.old.taken) (take n piece.now)) }
         ensures err { OnErr result (Some self.new.taken ≡ Some self.old.taken) }
         ensures cause { HasCause self.old.script.faults self.new.script.faults result }
         ensures fails { IsErr result ↔ WriteFails self.old piece.now }

@@ -12,7 +12,8 @@ use crate::{Failed, Source};
 use std::marker::Model;
 use std::vec::IntoIter;
 
-/// A source that gives bytes in memory, in pieces of planned sizes, and fails at planned calls. It ignores names.
+/// A source that gives bytes in memory, in pieces of planned sizes, and fails at planned calls. It ignores the
+/// name that `start` is given.
 #[derive(Drop)]
 pub struct MemorySource {
     bytes: Vec<u8>,
@@ -29,7 +30,12 @@ impl Model for MemorySource {
 
     ghost Value = { SourceState };
 
-    ghost view = { λ a. record { left = drop a.at a.bytes.items; cuts = into_iter_items a.cuts; script = a.script; ended = a.ended } };
+    ghost view = { λ a. record {
+      left = drop a.at a.bytes.items;
+      cuts = into_iter_items a.cuts;
+      script = a.script;
+      ended = a.ended;
+    } };
 
     ghost invariant = { λ a. a.at ≤ length a.bytes.items };
 }
@@ -38,7 +44,12 @@ impl MemorySource {
     /// Each read that doesn't fail gives at most the next of `cuts` (0 counts as 1), and as many bytes as fit
     /// once there is none. The calls of `start` and `read` are numbered from 1; those in `fail` fail.
     pub fn new(bytes: Vec<u8>, cuts: Vec<usize>, fail: Vec<u64>) -> MemorySource
-        ensures { result ≡ record { left = bytes.items; cuts = cuts.items; script = new_script fail.items; ended = false } }
+        ensures { result ≡ record {
+          left = bytes.items;
+          cuts = cuts.items;
+          script = new_script fail.items;
+          ended = false;
+        } }
     {
         MemorySource {
             bytes,
@@ -72,8 +83,10 @@ impl Source for MemorySource {
 
     fn read(&mut self, buf: &mut [u8]) -> Result<usize, Failed>
         ensures count { IfOk result (λ n. n ≤ length buf.old) }
-        ensures bytes { IfOk result (λ n. Some self.old.left ≡ followed_by (take n buf.new) (Some self.new.left)) }
-        ensures end { IfOk result (λ n. n ≡ 0 → 0 < length buf.old → IsEmptyWhereTold (Some self.new.left)) }
+        ensures bytes { IfOk result
+            (λ n. Some self.old.left ≡ followed_by (take n buf.new) (Some self.new.left)) }
+        ensures end { IfOk result
+            (λ n. n ≡ 0 → 0 < length buf.old → IsEmptyWhereTold (Some self.new.left)) }
         ensures ended { self.new.ended ≡ (self.old.ended || is_end result (length buf.old)) }
         ensures err { OnErr result (Some self.new.left ≡ Some self.old.left) }
         ensures cause { HasCause self.old.script.faults self.new.script.faults result }

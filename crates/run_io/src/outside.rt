@@ -15,7 +15,8 @@ pub trait Source {
     /// The count of faults, which never falls.
     ghost faults: { Self → ℕ };
 
-    /// Whether a read of a buffer that isn't empty has answered `Ok(0)`. A new source isn't ended, and nothing clears it.
+    /// Whether a read of a buffer that isn't empty has answered `Ok(0)`. A new source isn't ended, and a source
+    /// that has ended stays so.
     ghost ended: { Self → Bool };
 
     /// Makes the source ready to be read. With a name it is the file of that name, without one standard input;
