@@ -69,7 +69,7 @@ at_or_before_cases a b lt = ⊎_elim inl (λ le. inr (omega arith)) (cases_lt a 
 pub fail_more : (p : List Bool → Bool) (n : ℕ) (tried next : List Bool) → length tried ≡ n → ((values : List Bool) → length values ≡ n → place_of values < place_of tried → p values ≡ false) → p tried ≡ false → place_of next ≡ place_of tried + 1 → (values : List Bool) → length values ≡ n → place_of values < place_of next → p values ≡ false
 fail_more p n tried next size fail is step values values_size lt =
     at_or_before p tried values (λ other other_size. fail other (other_size ∙ size)) is (values_size ∙ sym size)
-      (at_or_before_cases (place_of values) (place_of tried) (omega arith))
+    (at_or_before_cases (place_of values) (place_of tried) (omega arith))
 
 -- what fails for every number up to the last one fails always
 pub fail_all : (p : List Bool → Bool) (n : ℕ) (tried : List Bool) → length tried ≡ n → ((values : List Bool) → length values ≡ n → place_of values < place_of tried → p values ≡ false) → p tried ≡ false → place_of tried + 1 ≡ 2 ^ length tried → (values : List Bool) → length values ≡ n → p values ≡ false
@@ -77,7 +77,7 @@ fail_all p n tried size fail is last values values_size =
     let below : place_of values < 2 ^ length values = place_of-below values in
     let same : 2 ^ length values ≡ 2 ^ length tried = ap (λ k. 2 ^ k) (values_size ∙ sym size) in
     at_or_before p tried values (λ other other_size. fail other (other_size ∙ size)) is (values_size ∙ sym size)
-      (at_or_before_cases (place_of values) (place_of tried) (omega arith))
+    (at_or_before_cases (place_of values) (place_of tried) (omega arith))
 
 pub nearer : (n : ℕ) (tried next : List Bool) → length tried ≡ n → length next ≡ length tried → place_of next ≡ place_of tried + 1 → 2 ^ n - place_of next < 2 ^ n - place_of tried
 nearer n tried next size same step =

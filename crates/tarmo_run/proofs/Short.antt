@@ -32,7 +32,7 @@ get_or-fitted (suc n) (value ∷ values) (suc i) lt = get_or-fitted n values i (
 lit_true-fitted : (n : ℕ) (values : List Bool) (lit : ℕ) → IsLit lit → variable lit ≤ n → lit_true (fitted n values) lit ≡ lit_true values lit
 lit_true-fitted n values lit is within =
     ap (λ value. cond (is_negative lit) (not value) value)
-      (get_or-fitted n values (variable lit - 1) (omega (arith, is.not_zero)))
+    (get_or-fitted n values (variable lit - 1) (omega (arith, is.not_zero)))
 
 clause_true-fitted : (n : ℕ) (values : List Bool) (clause : List ℕ) → All IsLit clause → greatest_of clause ≤ n → clause_true (fitted n values) clause ≡ clause_true values clause
 clause_true-fitted n values [] each within = refl
@@ -60,11 +60,11 @@ pub refuted_by_all : (clauses : List (List ℕ)) (cube : List ℕ) (n : ℕ) →
 refuted_by_all clauses cube n lits cube_lits is none = record {
   within = All-contains_itself cube;
   refuted = λ values hold. cube_contradicts values cube ∙ ap not (false_from_ne_true (cube_true values cube) (λ holds.
-    both_ways (satisfies (fitted n values) clauses cube)
+      both_ways (satisfies (fitted n values) clauses cube)
       (none (fitted n values) (length-fitted n values))
       (and_from _ _
-        (all_true-fitted n values clauses lits (omega arith) ∙ hold)
-        (cube_true-fitted n values cube cube_lits (omega arith) ∙ holds))));
+      (all_true-fitted n values clauses lits (omega arith) ∙ hold)
+      (cube_true-fitted n values cube cube_lits (omega arith) ∙ holds))));
 }
 
 -- an assignment of exactly the query's variables that satisfies it is a model

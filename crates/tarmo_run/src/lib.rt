@@ -5,5 +5,10 @@
 //! and writes through the traits of `run_io`.
 #![tactic(auto)]
 
+mod alone;
 mod blocks;
+mod endings;
+mod input;
 mod search;
+
+pub use alone::run_alone;

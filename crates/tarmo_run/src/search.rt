@@ -74,7 +74,12 @@ fn is_satisfied(clauses: &[Clause], cube: &Cube, a: &Assign) -> bool
 }
 
 // A satisfying assignment of that many variables, or none where all were tried.
-fn find_assignment(alloc: Global, clauses: &[Clause], cube: &Cube, variables: u32) -> Result<Option<Assign>, AllocError>
+fn find_assignment(
+    alloc: Global,
+    clauses: &[Clause],
+    cube: &Cube,
+    variables: u32,
+) -> Result<Option<Assign>, AllocError>
     ensures { IfOk result (λ found. MatchOption found
         ((values : List Bool) → length values ≡ variables → satisfies values clauses.now cube.now ≡ false)
         (λ values. (length values ≡ variables) × (satisfies values clauses.now cube.now ≡ true))) }
@@ -91,7 +96,11 @@ fn find_assignment(alloc: Global, clauses: &[Clause], cube: &Cube, variables: u3
 
 /// A model of the query, or none, and then the whole cube is a refuted part. It tries every assignment of
 /// the query's variables, 2^V of them.
-pub(crate) fn find_model(alloc: Global, clauses: &[Clause], cube: &Cube) -> Result<Option<Assign>, AllocError>
+pub(crate) fn find_model(
+    alloc: Global,
+    clauses: &[Clause],
+    cube: &Cube,
+) -> Result<Option<Assign>, AllocError>
     ensures { IfOk result (λ found. MatchOption found (IsRefutedPart clauses.now cube.now cube.now) (IsModelOf clauses.now cube.now)) }
 {
     let variables = greatest_of_clauses(clauses).max(greatest_variable(cube.lits()));

@@ -16,7 +16,7 @@ loop-tried-init c =
 pub returns-in_default : goal.returns-in_default
 returns-in_default c =
     fail_all (λ values. satisfies values c.args.clauses.now c.args.cube.now) c.args.variables c.loop-tried.tried c.loop-tried.invariant.size c.loop-tried.invariant.fail
-      (sym c.is_satisfied.ensures ∙ c.loop-tried-test.true) (search rules)
+    (sym c.is_satisfied.ensures ∙ c.loop-tried-test.true) (search rules)
 
 pub loop-tried-smaller : goal.loop-tried-smaller
 loop-tried-smaller c =
@@ -26,5 +26,5 @@ pub loop-tried-preserved : goal.loop-tried-preserved
 loop-tried-preserved c = record {
   size = c.in-Some.ensures.0 ∙ c.loop-tried.invariant.size;
   fail = fail_more (λ values. satisfies values c.args.clauses.now c.args.cube.now) c.args.variables c.loop-tried.tried c.in-Some.next c.loop-tried.invariant.size c.loop-tried.invariant.fail
-    (sym c.is_satisfied.ensures ∙ c.loop-tried-test.true) c.in-Some.ensures.1;
+      (sym c.is_satisfied.ensures ∙ c.loop-tried-test.true) c.in-Some.ensures.1;
 }

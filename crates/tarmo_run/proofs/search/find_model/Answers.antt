@@ -13,10 +13,10 @@ returns c =
     let cube = c.args.cube.now in
     let n = c.max-variables.result in
     let is : n ≡ variables clauses cube = c.max-variables.ensures
-          ∙ ap (λ k. max k c.greatest_variable.result) c.greatest_of_clauses.ensures.value
-          ∙ ap (max _) (c.greatest_variable.ensures.value ∙ ap greatest_of c.lits.ensures.value) in
+    ∙ ap (λ k. max k c.greatest_variable.result) c.greatest_of_clauses.ensures.value
+    ∙ ap (max _) (c.greatest_variable.ensures.value ∙ ap greatest_of c.lits.ensures.value) in
     IfOk-weaker c.find_assignment.result
-      (λ found. MatchOption found ((values : List Bool) → length values ≡ n → satisfies values clauses cube ≡ false) (λ values. (length values ≡ n) × (satisfies values clauses cube ≡ true)))
-      (λ found. MatchOption found (IsRefutedPart clauses cube cube) (IsModelOf clauses cube))
-      (tried_all clauses cube n c.greatest_of_clauses.ensures.lits (subst (All IsLit) c.lits.ensures.value c.greatest_variable.ensures.lits) is)
-      c.find_assignment.ensures
+    (λ found. MatchOption found ((values : List Bool) → length values ≡ n → satisfies values clauses cube ≡ false) (λ values. (length values ≡ n) × (satisfies values clauses cube ≡ true)))
+    (λ found. MatchOption found (IsRefutedPart clauses cube cube) (IsModelOf clauses cube))
+    (tried_all clauses cube n c.greatest_of_clauses.ensures.lits (subst (All IsLit) c.lits.ensures.value c.greatest_variable.ensures.lits) is)
+    c.find_assignment.ensures
