@@ -51,8 +51,8 @@ finished_in_line ending left_before left_after ended failed before middle after 
   };
   count = length showed.blocks + front.size;
   taken = front.taken ∙ ap (λ taken. appended taken (take front.size (last_line_of front.told))) showed.taken
-    ∙ appended_twice before showed.blocks (take front.size (last_line_of front.told))
-    ∙ ap (appended before) (sym (take-append-add showed.blocks (last_line_of front.told) front.size));
+      ∙ appended_twice before showed.blocks (take front.size (last_line_of front.told))
+      ∙ ap (appended before) (sym (take-append-add showed.blocks (last_line_of front.told) front.size));
 }
 
 pub finished_in_blocks : (left_before left_after : Option (List ℕ)) (ended failed : Bool) (before after : Option (List ℕ)) → Broke left_before left_after before after → FinishedInPart left_before left_after ended failed before after

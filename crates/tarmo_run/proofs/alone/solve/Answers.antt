@@ -14,10 +14,10 @@ returns-in_err-ending-clause-front g c = OnErr-always c.from_residual.result (fi
 pub returns-clause-finished : goal.returns-clause-finished
 returns-clause-finished g c =
     IfOk-weaker c.close.result
-      (λ told. ((told ≡ c.in_ok-ending.ending) ⊎ (told ≡ endings.Exhausted)) × (g.O.Sink.taken c.close.new.out ≡ appended (g.O.Sink.taken c.show_blocks.new.out) (last_line_of told)))
-      _
-      (λ told h. finished c.in_ok-ending.ending told _ _ _ _ _ _ _ c.in_ok-ending.ensures.showed h.0 h.1)
-      c.close.ensures.told
+    (λ told. ((told ≡ c.in_ok-ending.ending) ⊎ (told ≡ endings.Exhausted)) × (g.O.Sink.taken c.close.new.out ≡ appended (g.O.Sink.taken c.show_blocks.new.out) (last_line_of told)))
+    _
+    (λ told h. finished c.in_ok-ending.ending told _ _ _ _ _ _ _ c.in_ok-ending.ensures.showed h.0 h.1)
+    c.close.ensures.told
 
 pub returns-clause-front : goal.returns-clause-front
 returns-clause-front g c =
