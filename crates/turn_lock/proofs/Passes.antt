@@ -11,7 +11,7 @@ use Rattle.atomic_table.specs.Seated.{TableId}
 use Rattle.atomic_table.proofs.Lists.{at_map}
 use Rattle.turn_lock.specs.declared.view.SeatView.{SeatView}
 use Rattle.turn_lock.specs.Turns.{blank, keeper}
-use Rattle.turn_lock.specs.Passes.{LockView, PassView, IsOf, AreNew, AreIdleInOrder, AllPast, FitsPasts, KeepsWord, new_pass, remembered}
+use Rattle.turn_lock.specs.Passes.{LockView, PassView, IsOf, AreNew, AreIdleInOrder, AllPast, FitsPasts, AgreesWith, new_pass, remembered}
 
 at_or : {A : Type 0} (l : List A) (i : ℕ) (d : A) → i < length l → get_elem? l i ≡ some (get_or l i d)
 at_or [] i d h = absurd (omega arith)
@@ -59,9 +59,9 @@ module _ {E G : Type 0} where
       )
 
   -- what fits a value of past passes, the value keeps of each pass
-  pub words_kept : {T : Type 0} (entries : T → List E) (caller : E → ℕ) (count : T → ℕ) (most : ℕ) (passes : List (PassView E G)) (value : T)
-      → FitsPasts entries caller count most (map remembered passes) value → All (λ p. KeepsWord entries caller count p value) passes
-  words_kept entries caller count most passes value fits k d within =
+  pub all_agree : {T : Type 0} (entries : T → List E) (caller : E → ℕ) (count : T → ℕ) (most : ℕ) (passes : List (PassView E G)) (value : T)
+      → FitsPasts entries caller count most (map remembered passes) value → All (λ p. AgreesWith entries caller count p value) passes
+  all_agree entries caller count most passes value fits k d within =
       let p = get_or passes k d in
       let f = fits k (remembered p) (at_map remembered passes k p (at_or passes k d within)) in
       record { seen = f.seen; own = f.own; floor = f.floor }

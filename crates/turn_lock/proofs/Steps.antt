@@ -11,7 +11,7 @@ use Rattle.turn_lock.specs.declared.view.Look.TheVariants.{Turn}
 use Rattle.turn_lock.specs.declared.view.PastView.{PastView}
 use Rattle.turn_lock.specs.declared.view.SeatView.{SeatView}
 use Rattle.turn_lock.specs.Entries.{StartsWith, entries_of}
-use Rattle.turn_lock.specs.Turns.{FitsPass, FitsPast, FitsSlot, IsCountOf, IsOneHistory, IsSeated, IsGone, Shows, holding, refused, tallying, leaving, counting, grabbed, tallied, released, was_read}
+use Rattle.turn_lock.specs.Turns.{FitsPass, FitsPast, FitsSlot, IsCountOf, IsOneHistory, IsSeated, IsGone, Shows, holding, refused, tallying, leaving, counting, acquired, count_stored, released, count_loaded}
 use Rattle.turn_lock.proofs.Entries.{starts_self, starts_on, of_same}
 use Rattle.turn_lock.proofs.Seats.{still_seated, stood}
 
@@ -41,8 +41,16 @@ module _ {T E G : Type 0} (entries : T → List E) (caller : E → ℕ) (count :
   restep s o id v w at low same past words homes log turn tally are known counted slot held mine others olds =
       let was = stood s.views id v w at same past in
       record {
-        log = log; turn = turn; tally = tally; top = o.top; numberer = o.numberer;
-        words = are; known = known; few = o.few; counted = counted; slot = slot;
+        log = log;
+        turn = turn;
+        tally = tally;
+        top = o.top;
+        numberer = o.numberer;
+        words = are;
+        known = known;
+        few = o.few;
+        counted = counted;
+        slot = slot;
         holder = λ taken. still_seated s.views id v w at same turn (held taken);
         each = λ j u there numbered.
             ⊎_elim
@@ -86,87 +94,116 @@ module _ {T E G : Type 0} (entries : T → List E) (caller : E → ℕ) (count :
           basis_is = fits.basis ∙ ap (λ x. Some x) (sym ground);
         }
 
-    pub grabs : (slots id number : ℕ) (m : Me (Option T) (SeatView E G)) → slots ≡ 1 → m.0.number ≡ number → 0 < number
-        → Allows Rule slots id m 0 (λ n. either (eqb n 0) number n) (grabbed entries caller count basis (step slots 0 0 number none) m)
-    grabs slots id number m one is low s o wide at _ =
+    pub acquires : (slots id number : ℕ) (m : Me (Option T) (SeatView E G)) → slots ≡ 1 → m.0.number ≡ number → 0 < number
+        → Allows Rule slots id m 0 (λ n. either (eqb n 0) number n) (acquired entries caller count basis (step slots 0 0 number none) m)
+    acquires slots id number m one is low s o wide at _ =
         let v = m.0 in
         let low' : 0 < v.number = subst (λ n. 0 < n) (sym is) low in
         let fits = o.each id v at low' in
         let word : get_or s.words 0 0 ≡ o.turn = ap (λ ws. get_or ws 0 0) o.words in
-        exchanged (get_or s.words 0 0) 0 number (Goes s 0 id m (grabbed entries caller count basis (step slots 0 0 number none) m))
+        exchanged (get_or s.words 0 0) 0 number (Goes s 0 id m (acquired entries caller count basis (step slots 0 0 number none) m))
         (λ free.
-            let h = o.slot.home (sym word ∙ free) in
-            let value = h.0 in
-            let w = holding v (entries value) in
-            let inside : 0 < length s.homes = omega arith in (
-              w,
-              takes 0 (Some value),
-              h.1,
-              restep s o id v w at low' refl refl (set s.words 0 number) (set s.homes 0 none) o.log number o.tally (ap (λ ws. set ws 0 number) o.words) o.known o.counted
+        let h = o.slot.home (sym word ∙ free) in
+        let value = h.0 in
+        let w = holding v (entries value) in
+        let inside : 0 < length s.homes = omega arith in (
+          w,
+          takes 0 (Some value),
+          h.1,
+          restep s o id v w at low' refl refl (set s.words 0 number) (set s.homes 0 none) o.log number o.tally (ap (λ ws. set ws 0 number) o.words) o.known o.counted
               (record { home = λ none. absurd (omega arith); out = λ _. set_here s.homes 0 none inside })
               (λ _. (id, v, at, is))
               (record {
-                least = low'; most = fits.most; idle = λ e. absurd (true≢false (sym e)); busy = λ _. (is, h.2);
-                seen = subst (λ l. StartsWith o.log l) (sym h.2) (starts_self o.log); own = fits.own; floor = fits.floor; basis = fits.basis; greatest = fits.greatest;
+                least = low';
+                most = fits.most;
+                idle = λ e. absurd (true≢false (sym e));
+                busy = λ _. (is, h.2);
+                seen = subst (λ l. StartsWith o.log l) (sym h.2) (starts_self o.log);
+                own = fits.own;
+                floor = fits.floor;
+                basis = fits.basis;
+                greatest = fits.greatest;
               })
               (λ j u ne f. record {
-                least = f.least; most = f.most; idle = λ _ e. ne (e ∙ sym is); busy = λ b. let n = (f.busy b).0 ∙ (sym word ∙ free) in let l = f.least in absurd (omega arith);
-                seen = f.seen; own = f.own; floor = f.floor; basis = f.basis; greatest = f.greatest;
+                least = f.least;
+                most = f.most;
+                idle = λ _ e. ne (e ∙ sym is);
+                busy = λ b. let n = (f.busy b).0 ∙ (sym word ∙ free) in let l = f.least in absurd (omega arith);
+                seen = f.seen;
+                own = f.own;
+                floor = f.floor;
+                basis = f.basis;
+                greatest = f.greatest;
               })
               (λ x _ f. f),
-              (λ _. (value, refl, shows s o id v value h.2 h.3 fits), λ taken. absurd (taken free)),
-            ))
+          (λ _. (value, refl, shows s o id v value h.2 h.3 fits), λ taken. absurd (taken free)),
+        ))
         (λ taken.
-            let found = get_or s.words 0 0 in
-            let w = refused v found in
-            let turn = ⊎_elim (λ (e : o.turn ≡ 0). absurd (taken (word ∙ e))) (λ (h : 0 < o.turn). h) (eq-zero-or-pos o.turn) in
-            let within = turn_within s o turn in
-            let few = o.few in
-            let high : found ≤ 80 = omega arith in (
-              w,
-              keeps,
-              tt,
-              unmoved s o id v w at low' refl refl (set s.words 0 found) (ap (λ ws. set ws 0 (get_or ws 0 0)) o.words)
+        let found = get_or s.words 0 0 in
+        let w = refused v found in
+        let turn = ⊎_elim (λ (e : o.turn ≡ 0). absurd (taken (word ∙ e))) (λ (h : 0 < o.turn). h) (eq-zero-or-pos o.turn) in
+        let within = turn_within s o turn in
+        let few = o.few in
+        let high : found ≤ 80 = omega arith in (
+          w,
+          keeps,
+          tt,
+          unmoved s o id v w at low' refl refl (set s.words 0 found) (ap (λ ws. set ws 0 (get_or ws 0 0)) o.words)
               (record { least = low'; most = fits.most; idle = fits.idle; busy = fits.busy; seen = fits.seen; own = fits.own; floor = fits.floor; basis = fits.basis; greatest = fits.greatest }),
-              (λ free. absurd (taken free), λ _. (high, refl)),
-            ))
+          (λ free. absurd (taken free), λ _. (high, refl)),
+        ))
 
-    pub tallies : (slots id n : ℕ) (m : Me (Option T) (SeatView E G)) (value : T) (added : List E) → m.1 ≡ (0, Some value) ∷ [] → 0 < m.0.number → m.0.idle ≡ false
+    pub stores : (slots id n : ℕ) (m : Me (Option T) (SeatView E G)) (value : T) (added : List E) → m.1 ≡ (0, Some value) ∷ [] → 0 < m.0.number → m.0.idle ≡ false
         → basis value ≡ g → entries value ≡ m.0.seen ++ added → All (λ e. caller e ≡ m.0.number) added → n ≡ count value
-        → Allows Rule slots id m 1 (λ _. n) (λ _. tallied entries caller (step slots 1 n 0 none) m n)
-    tallies slots id n m value added has low busy ground longer own is =
-        subst (λ c. Allows Rule slots id (m.0, c) 1 (λ _. n) (λ _. tallied entries caller (step slots 1 n 0 none) (m.0, c) n)) (sym has)
+        → Allows Rule slots id m 1 (λ _. n) (λ _. count_stored entries caller (step slots 1 n 0 none) m n)
+    stores slots id n m value added has low busy ground longer own is =
+        subst (λ c. Allows Rule slots id (m.0, c) 1 (λ _. n) (λ _. count_stored entries caller (step slots 1 n 0 none) (m.0, c) n)) (sym has)
         (λ s o wide at _.
-            let v = m.0 in
-            let fits = o.each id v at low in
-            let held = fits.busy busy in
-            let grown : entries value ≡ o.log ++ added = longer ∙ ap (λ l. l ++ added) held.1 in
-            let c = o.counted in
-            let up : count c.value ≤ count value = counts_up c.value value added (c.basis_is ∙ sym ground) (grown ∙ ap (λ l. l ++ added) (sym c.entries_are)) in
-            let up' : o.tally ≤ n = subst (λ k. k ≤ n) c.count_is (subst (λ k. count c.value ≤ k) (sym is) up) in
-            let w = tallying v (entries value) (entries_of caller v.number (entries value)) n in
-            let seen_on = λ (seen : List E) (h : StartsWith o.log seen). subst (λ l. StartsWith l seen) (sym grown) (starts_on o.log seen added h) in
-            let own_on = λ (k : ℕ) (ne : k ≢ v.number). ap (λ l. entries_of caller k l) grown ∙ of_same caller k o.log added (All-weaker (λ e. caller e ≡ v.number) (λ e. caller e ≢ k) (λ e mine here. ne (sym here ∙ mine)) added own) in (
-              w,
-              keeps,
-              tt,
-              restep s o id v w at low refl refl (set s.words 1 n) s.homes (entries value) o.turn n (ap (λ ws. set ws 1 n) o.words)
+        let v = m.0 in
+        let fits = o.each id v at low in
+        let held = fits.busy busy in
+        let grown : entries value ≡ o.log ++ added = longer ∙ ap (λ l. l ++ added) held.1 in
+        let c = o.counted in
+        let up : count c.value ≤ count value = counts_up c.value value added (c.basis_is ∙ sym ground) (grown ∙ ap (λ l. l ++ added) (sym c.entries_are)) in
+        let up' : o.tally ≤ n = subst (λ k. k ≤ n) c.count_is (subst (λ k. count c.value ≤ k) (sym is) up) in
+        let w = tallying v (entries value) (entries_of caller v.number (entries value)) n in
+        let seen_on = λ (seen : List E) (h : StartsWith o.log seen). subst (λ l. StartsWith l seen) (sym grown) (starts_on o.log seen added h) in
+        let own_on = λ (k : ℕ) (ne : k ≢ v.number). ap (λ l. entries_of caller k l) grown ∙ of_same caller k o.log added (All-weaker (λ e. caller e ≡ v.number) (λ e. caller e ≢ k) (λ e mine here. ne (sym here ∙ mine)) added own) in (
+          w,
+          keeps,
+          tt,
+          restep s o id v w at low refl refl (set s.words 1 n) s.homes (entries value) o.turn n (ap (λ ws. set ws 1 n) o.words)
               (subst (All (λ e. (0 < caller e) × (caller e ≤ o.top))) (sym grown)
-                  (All-append (λ e. (0 < caller e) × (caller e ≤ o.top)) o.log added o.known
-                      (All-weaker (λ e. caller e ≡ v.number) (λ e. (0 < caller e) × (caller e ≤ o.top)) (λ e mine. (subst (λ k. 0 < k) (sym mine) low, subst (λ k. k ≤ o.top) (sym mine) fits.most)) added own)))
+              (All-append (λ e. (0 < caller e) × (caller e ≤ o.top)) o.log added o.known
+              (All-weaker (λ e. caller e ≡ v.number) (λ e. (0 < caller e) × (caller e ≤ o.top)) (λ e mine. (subst (λ k. 0 < k) (sym mine) low, subst (λ k. k ≤ o.top) (sym mine) fits.most)) added own)))
               (record { value = value; entries_are = refl; basis_is = ground; count_is = sym is })
               (record { home = λ free. let t = held.0 in absurd (omega arith); out = o.slot.out })
               o.holder
               (record {
-                least = low; most = fits.most; idle = fits.idle; busy = λ _. (held.0, refl); seen = starts_self (entries value); own = refl; floor = le_refl n; basis = fits.basis; greatest = fits.greatest;
+                least = low;
+                most = fits.most;
+                idle = fits.idle;
+                busy = λ _. (held.0, refl);
+                seen = starts_self (entries value);
+                own = refl;
+                floor = le_refl n;
+                basis = fits.basis;
+                greatest = fits.greatest;
               })
               (λ j u ne f. record {
-                least = f.least; most = f.most; idle = f.idle; busy = λ b. absurd (ne ((f.busy b).0 ∙ sym held.0));
-                seen = seen_on u.seen f.seen; own = own_on u.number ne ∙ f.own; floor = le_trans f.floor up'; basis = f.basis; greatest = f.greatest;
+                least = f.least;
+                most = f.most;
+                idle = f.idle;
+                busy = λ b. absurd (ne ((f.busy b).0 ∙ sym held.0));
+                seen = seen_on u.seen f.seen;
+                own = own_on u.number ne ∙ f.own;
+                floor = le_trans f.floor up';
+                basis = f.basis;
+                greatest = f.greatest;
               })
               (λ x ne f. record { least = f.least; most = f.most; seen = seen_on x.seen f.seen; own = own_on x.number ne ∙ f.own; floor = le_trans f.floor up' }),
-              refl,
-            ))
+          refl,
+        ))
 
   pub releases : (slots id : ℕ) (m : Me (Option T) (SeatView E G)) (value : T) → slots ≡ 1 → m.1 ≡ (0, Some value) ∷ [] → 0 < m.0.number → m.0.idle ≡ false
       → basis value ≡ g → entries value ≡ m.0.seen
@@ -174,31 +211,45 @@ module _ {T E G : Type 0} (entries : T → List E) (caller : E → ℕ) (count :
   releases slots id m value one has low busy ground seen =
       subst (λ c. Allows Rule slots id (m.0, c) 0 (λ _. 0) (λ _. released {T = T} (step slots 0 0 0 none) (m.0, c) 0)) (sym has)
       (λ s o wide at _.
-          let v = m.0 in
-          let fits = o.each id v at low in
-          let held = fits.busy busy in
-          let inside : 0 < length s.homes = omega arith in (
-            leaving v,
-            gives,
-            tt,
-            restep s o id v (leaving v) at low refl refl (set s.words 0 0) (set s.homes 0 (some (Some value))) o.log 0 o.tally (ap (λ ws. set ws 0 0) o.words) o.known o.counted
+      let v = m.0 in
+      let fits = o.each id v at low in
+      let held = fits.busy busy in
+      let inside : 0 < length s.homes = omega arith in (
+        leaving v,
+        gives,
+        tt,
+        restep s o id v (leaving v) at low refl refl (set s.words 0 0) (set s.homes 0 (some (Some value))) o.log 0 o.tally (ap (λ ws. set ws 0 0) o.words) o.known o.counted
             (record { home = λ _. (value, set_here s.homes 0 (some (Some value)) inside, seen ∙ held.1, ground); out = λ h. absurd (omega arith) })
             (λ h. absurd (omega arith))
             (record {
-              least = low; most = fits.most; idle = λ _ e. absurd (omega arith); busy = λ e. absurd (true≢false e);
-              seen = fits.seen; own = fits.own; floor = fits.floor; basis = fits.basis; greatest = fits.greatest;
+              least = low;
+              most = fits.most;
+              idle = λ _ e. absurd (omega arith);
+              busy = λ e. absurd (true≢false e);
+              seen = fits.seen;
+              own = fits.own;
+              floor = fits.floor;
+              basis = fits.basis;
+              greatest = fits.greatest;
             })
             (λ j u ne f. record {
-              least = f.least; most = f.most; idle = λ _ e. let l = f.least in absurd (omega arith); busy = λ b. absurd (ne ((f.busy b).0 ∙ sym held.0));
-              seen = f.seen; own = f.own; floor = f.floor; basis = f.basis; greatest = f.greatest;
+              least = f.least;
+              most = f.most;
+              idle = λ _ e. let l = f.least in absurd (omega arith);
+              busy = λ b. absurd (ne ((f.busy b).0 ∙ sym held.0));
+              seen = f.seen;
+              own = f.own;
+              floor = f.floor;
+              basis = f.basis;
+              greatest = f.greatest;
             })
             (λ x _ f. f),
-            refl,
-          ))
+        refl,
+      ))
 
-  pub reads : (slots id : ℕ) (m : Me (Option T) (SeatView E G)) → 0 < m.0.number
-      → Allows Rule slots id m 1 (λ n. n) (was_read {T = T} (step slots 1 0 0 none) m)
-  reads slots id m low s o wide at _ =
+  pub loads : (slots id : ℕ) (m : Me (Option T) (SeatView E G)) → 0 < m.0.number
+      → Allows Rule slots id m 1 (λ n. n) (count_loaded {T = T} (step slots 1 0 0 none) m)
+  loads slots id m low s o wide at _ =
       let v = m.0 in
       let found = get_or s.words 1 0 in
       let fits = o.each id v at low in
@@ -208,6 +259,6 @@ module _ {T E G : Type 0} (entries : T → List E) (caller : E → ℕ) (count :
         keeps,
         tt,
         unmoved s o id v w at low refl refl (set s.words 1 found) (ap (λ ws. set ws 1 (get_or ws 1 0)) o.words)
-        (record { least = low; most = fits.most; idle = fits.idle; busy = fits.busy; seen = fits.seen; own = fits.own; floor = le_of_eq is; basis = fits.basis; greatest = fits.greatest }),
+            (record { least = low; most = fits.most; idle = fits.idle; busy = fits.busy; seen = fits.seen; own = fits.own; floor = le_of_eq is; basis = fits.basis; greatest = fits.greatest }),
         (refl, subst (λ n. v.floor ≤ n) (sym is) fits.floor),
       )

@@ -9,7 +9,7 @@ use Rattle.atomic_table.proofs.Lists.{at_set, set_else, at_longer}
 use Rattle.turn_lock.specs.declared.view.PastView.{PastView}
 use Rattle.turn_lock.specs.declared.view.SeatView.{SeatView}
 use Rattle.turn_lock.specs.Entries.{StartsWith, entries_of}
-use Rattle.turn_lock.specs.Turns.{FitsPast, IsOneHistory, IsGone, keeper, blank, watching, past_of, remembering}
+use Rattle.turn_lock.specs.Turns.{FitsPast, IsOneHistory, IsGone, keeper, blank, observed, past_of, remembering}
 use Rattle.turn_lock.specs.Passes.{AllPast, FitsPasts}
 use Rattle.turn_lock.proofs.Seats.{at_end, same_at}
 use Rattle.turn_lock.proofs.Steps.{Rule, CountsUp}
@@ -19,12 +19,20 @@ module _ {T E G : Type 0} (entries : T → List E) (caller : E → ℕ) (count :
   no_pass : (pasts : List (PastView E)) (u : SeatView E G) → keeper pasts ≡ u → 0 < u.number → ⊥
   no_pass pasts u e h = let z : 0 ≡ u.number = ap (λ (x : SeatView E G). x.number) e in omega arith
 
-  pub watches : (slots : ℕ) (first : SeatView E G) → Enters (Rule entries caller count basis g most) slots 0 (λ n w. watching {T = T} (step slots 0 0 0 none) (first, []) n (w, []))
-  watches slots first s o wide _ = (
+  pub observes : (slots : ℕ) (first : SeatView E G) → Enters (Rule entries caller count basis g most) slots 0 (λ n w. observed {T = T} (step slots 0 0 0 none) (first, []) n (w, []))
+  observes slots first s o wide _ = (
     blank,
     record {
-      log = o.log; turn = o.turn; tally = o.tally; top = o.top; numberer = o.numberer;
-      words = o.words; known = o.known; few = o.few; counted = o.counted; slot = o.slot;
+      log = o.log;
+      turn = o.turn;
+      tally = o.tally;
+      top = o.top;
+      numberer = o.numberer;
+      words = o.words;
+      known = o.known;
+      few = o.few;
+      counted = o.counted;
+      slot = o.slot;
       holder = λ taken. let h = o.holder taken in (h.0, h.1, at_longer s.views (blank ∷ []) h.0 h.1 h.2, h.3);
       each = λ j u there some_pass. ⊎_elim (λ in'. o.each j u in' some_pass) (λ (h : (j ≡ length s.views) × (blank ≡ u)). absurd (no_pass [] u h.1 some_pass)) (at_end s.views blank u j there);
       apart = λ i j a b p q some_pass e.
@@ -58,20 +66,28 @@ module _ {T E G : Type 0} (entries : T → List E) (caller : E → ℕ) (count :
       let stands : get_elem? s.views other ≡ some w = sym (set_else s.views id other both distinct) ∙ there in
       let fits = o.each other w stands low in
       let was = λ (j : ℕ) (u : SeatView E G) (p : get_elem? two j ≡ some u) (some_pass : 0 < u.number).
-          let R : Type 0 = (j ≢ other) × (get_elem? s.views j ≡ some u) in
-          ⊎_elim {C = R}
-          (λ (h : (j ≡ other) × (blank ≡ u)). absurd (no_pass [] u h.1 some_pass))
-          (λ (h : (j ≢ other) × (get_elem? one j ≡ some u)).
-              ⊎_elim {C = R}
-              (λ (h' : (j ≡ id) × (both ≡ u)). absurd (no_pass (past_of w ∷ pasts) u h'.1 some_pass))
-              (λ (h' : (j ≢ id) × (get_elem? s.views j ≡ some u)). (h.0, h'.1))
-              (at_set s.views id j both u h.1))
-          (at_set one other j blank u p) in
+      let R : Type 0 = (j ≢ other) × (get_elem? s.views j ≡ some u) in
+      ⊎_elim {C = R}
+      (λ (h : (j ≡ other) × (blank ≡ u)). absurd (no_pass [] u h.1 some_pass))
+      (λ (h : (j ≢ other) × (get_elem? one j ≡ some u)).
+      ⊎_elim {C = R}
+      (λ (h' : (j ≡ id) × (both ≡ u)). absurd (no_pass (past_of w ∷ pasts) u h'.1 some_pass))
+      (λ (h' : (j ≢ id) × (get_elem? s.views j ≡ some u)). (h.0, h'.1))
+      (at_set s.views id j both u h.1))
+      (at_set one other j blank u p) in
       let still_gone = λ (n : ℕ) (some_pass : 0 < n) (gone : IsGone s.views n) (i : ℕ) (a : SeatView E G) (p : get_elem? two i ≡ some a) (e : a.number ≡ n).
-          gone i a (was i a p (subst (λ k. 0 < k) (sym e) some_pass)).1 e in
+      gone i a (was i a p (subst (λ k. 0 < k) (sym e) some_pass)).1 e in
       record {
-        log = o.log; turn = o.turn; tally = o.tally; top = o.top; numberer = o.numberer;
-        words = o.words; known = o.known; few = o.few; counted = o.counted; slot = o.slot;
+        log = o.log;
+        turn = o.turn;
+        tally = o.tally;
+        top = o.top;
+        numberer = o.numberer;
+        words = o.words;
+        known = o.known;
+        few = o.few;
+        counted = o.counted;
+        slot = o.slot;
         holder = λ taken.
             let h = o.holder taken in
             let not_other : h.0 ≢ other = λ e. fits.idle idle (ap (λ (x : SeatView E G). x.number) (same_at s.views other w h.1 stands (subst (λ k. get_elem? s.views k ≡ some h.1) e h.2)) ∙ h.3) in
@@ -85,18 +101,18 @@ module _ {T E G : Type 0} (entries : T → List E) (caller : E → ℕ) (count :
             ⊎_elim {C = R}
             (λ (h : (j ≡ other) × (blank ≡ u)). absurd (some-ne-none x (sym (subst (λ (y : SeatView E G). get_elem? y.past k ≡ some x) (sym h.1) q))))
             (λ (h : (j ≢ other) × (get_elem? one j ≡ some u)).
-                ⊎_elim {C = R}
-                (λ (h' : (j ≡ id) × (both ≡ u)).
-                    ⊎_elim {C = R}
-                    (λ (is : past_of w ≡ x).
-                        subst (λ y. FitsPast caller o.log o.tally o.top y × IsGone two y.number) is (
-                          record { least = low; most = fits.most; seen = fits.seen; own = fits.own; floor = fits.floor },
-                          λ i a p' e. let y = was i a p' (subst (λ n. 0 < n) (sym e) low) in y.0 (o.apart i other a w y.1 stands (subst (λ n. 0 < n) (sym e) low) e),
-                        ))
-                    (λ (in' : (i : ℕ) × (get_elem? pasts i ≡ some x)). before id in'.0 (keeper pasts) at in'.1)
-                    (first_or (past_of w) x pasts k (subst (λ (y : SeatView E G). get_elem? y.past k ≡ some x) (sym h'.1) q)))
-                (λ (h' : (j ≢ id) × (get_elem? s.views j ≡ some u)). before j k u h'.1 q)
-                (at_set s.views id j both u h.1))
+            ⊎_elim {C = R}
+            (λ (h' : (j ≡ id) × (both ≡ u)).
+            ⊎_elim {C = R}
+            (λ (is : past_of w ≡ x).
+            subst (λ y. FitsPast caller o.log o.tally o.top y × IsGone two y.number) is (
+              record { least = low; most = fits.most; seen = fits.seen; own = fits.own; floor = fits.floor },
+              λ i a p' e. let y = was i a p' (subst (λ n. 0 < n) (sym e) low) in y.0 (o.apart i other a w y.1 stands (subst (λ n. 0 < n) (sym e) low) e),
+            ))
+            (λ (in' : (i : ℕ) × (get_elem? pasts i ≡ some x)). before id in'.0 (keeper pasts) at in'.1)
+            (first_or (past_of w) x pasts k (subst (λ (y : SeatView E G). get_elem? y.past k ≡ some x) (sym h'.1) q)))
+            (λ (h' : (j ≢ id) × (get_elem? s.views j ≡ some u)). before j k u h'.1 q)
+            (at_set s.views id j both u h.1))
             (at_set one other j blank u p);
       }
 
@@ -111,12 +127,12 @@ module _ {T E G : Type 0} (entries : T → List E) (caller : E → ℕ) (count :
   free s o id v at all =
       ⊎_elim (λ (e : o.turn ≡ 0). e)
       (λ (taken : 0 < o.turn).
-          let h = o.holder taken in
-          let low = subst (λ n. 0 < n) (sym h.3) taken in
-          let within = (o.each h.0 h.1 h.2 low).most in
-          let few = o.few.0 in
-          let past = all h.1.number low (omega arith) in
-          absurd ((o.pasts id past.0 v past.1 at past.2).1 h.0 h.1 h.2 (sym past.3)))
+      let h = o.holder taken in
+      let low = subst (λ n. 0 < n) (sym h.3) taken in
+      let within = (o.each h.0 h.1 h.2 low).most in
+      let few = o.few.0 in
+      let past = all h.1.number low (omega arith) in
+      absurd ((o.pasts id past.0 v past.1 at past.2).1 h.0 h.1 h.2 (sym past.3)))
       (eq-zero-or-pos o.turn)
 
   pub ends : CountsUp entries count basis → (words : List ℕ) (slots : List (Option T)) (id : ℕ) (v : SeatView E G) → Final (Seen (Rule entries caller count basis g most) id v) words slots
@@ -138,8 +154,11 @@ module _ {T E G : Type 0} (entries : T → List E) (caller : E → ℕ) (count :
           fits = λ k x there.
               let f = (o.pasts id k v x at there).0 in
               record {
-                least = f.least; most = le_trans f.most few; seen = subst (λ l. StartsWith l x.seen) (sym h.2) f.seen;
-                own = ap (λ l. entries_of caller x.number l) h.2 ∙ f.own; floor = le_trans f.floor up';
+                least = f.least;
+                most = le_trans f.most few;
+                seen = subst (λ l. StartsWith l x.seen) (sym h.2) f.seen;
+                own = ap (λ l. entries_of caller x.number l) h.2 ∙ f.own;
+                floor = le_trans f.floor up';
               };
         },
       )

@@ -47,7 +47,7 @@ AreIdleInOrder {E} {G} lock passes =
 
 -- all that a pass knows is true of a value: it has the entries seen for its beginning, of the pass exactly the pass's
 -- own entries, and a count of at least the floor
-pub record KeepsWord {T E G : Type 0} (entries : T → List E) (caller : E → ℕ) (count : T → ℕ) (pass : PassView E G) (value : T) : Type 0 where
+pub record AgreesWith {T E G : Type 0} (entries : T → List E) (caller : E → ℕ) (count : T → ℕ) (pass : PassView E G) (value : T) : Type 0 where
   pub seen : StartsWith (entries value) pass.seen
   pub own : entries_of caller pass.number (entries value) ≡ pass.own
   pub floor : pass.floor ≤ count value

@@ -76,8 +76,8 @@ module _ {E G : Type 0} where
   fresh basis floor number = record { number = number; seen = []; own = []; floor = floor; idle = true; looks = []; basis = basis; greatest = number; past = [] }
 
   -- the first pass of a lock with this ground and count
-  abbrev pub opener : G → ℕ → SeatView E G
-  opener g count = fresh (Some g) count 1
+  abbrev pub first_pass : G → ℕ → SeatView E G
+  first_pass g count = fresh (Some g) count 1
 
   -- of no pass, with what it remembers of past ones
   abbrev pub keeper : List (PastView E) → SeatView E G
@@ -137,20 +137,20 @@ module _ {T E : Type 0} (entries : T → List E) where
   in_hand (x ∷ xs) = value_entries x.1
 
 module _ {T E G : Type 0} where
-  abbrev pub grabbed : (T → List E) → (E → ℕ) → (T → ℕ) → (T → G) → Step (Option T) → Me (Option T) (SeatView E G) → ℕ → Me (Option T) (SeatView E G) → Type 0
-  grabbed entries caller count basis step m found n =
+  abbrev pub acquired : (T → List E) → (E → ℕ) → (T → ℕ) → (T → G) → Step (Option T) → Me (Option T) (SeatView E G) → ℕ → Me (Option T) (SeatView E G) → Type 0
+  acquired entries caller count basis step m found n =
       (found ≡ 0 → (value : T) × (n ≡ (holding m.0 (entries value), (0, Some value) ∷ m.1)) × Shows entries caller count basis m.0 value)
       × (found ≢ 0 → (found ≤ 80) × (n ≡ (refused m.0 found, m.1)))
 
-  abbrev pub tallied : (T → List E) → (E → ℕ) → Step (Option T) → Me (Option T) (SeatView E G) → ℕ → Me (Option T) (SeatView E G) → Type 0
-  tallied entries caller step m count n =
+  abbrev pub count_stored : (T → List E) → (E → ℕ) → Step (Option T) → Me (Option T) (SeatView E G) → ℕ → Me (Option T) (SeatView E G) → Type 0
+  count_stored entries caller step m count n =
       n ≡ (tallying m.0 (in_hand entries m.1) (entries_of caller m.0.number (in_hand entries m.1)) count, m.1)
 
   abbrev pub released : Step (Option T) → Me (Option T) (SeatView E G) → ℕ → Me (Option T) (SeatView E G) → Type 0
   released step m stored n = n ≡ (leaving m.0, rest m.1)
 
-  abbrev pub was_read : Step (Option T) → Me (Option T) (SeatView E G) → ℕ → Me (Option T) (SeatView E G) → Type 0
-  was_read step m found n = (n ≡ (counting m.0 found, m.1)) × (m.0.floor ≤ found)
+  abbrev pub count_loaded : Step (Option T) → Me (Option T) (SeatView E G) → ℕ → Me (Option T) (SeatView E G) → Type 0
+  count_loaded step m found n = (n ≡ (counting m.0 found, m.1)) × (m.0.floor ≤ found)
 
-  abbrev pub watching : Step (Option T) → Me (Option T) (SeatView E G) → ℕ → Me (Option T) (SeatView E G) → Type 0
-  watching step m found n = n ≡ (blank, [])
+  abbrev pub observed : Step (Option T) → Me (Option T) (SeatView E G) → ℕ → Me (Option T) (SeatView E G) → Type 0
+  observed step m found n = n ≡ (blank, [])

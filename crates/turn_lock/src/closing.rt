@@ -6,14 +6,10 @@ ghost use Rattle.turn_lock.specs.Passes.{remembered, AllPast, FitsPasts};
 use crate::kept::Kept;
 use crate::lock::Pass;
 use crate::plays::TakeIn;
-use crate::rule::{TurnSeat, TurnShared, TurnTable};
+use crate::rule::{TurnSeat, TurnShared, TurnTable, VALUE};
 
 // The seat of no pass remembers these passes too, before those that it remembered.
-pub fn take_in<T: Kept>(
-    shared: &TurnShared<T>,
-    seat: &mut TurnSeat<T>,
-    mut passes: Vec<Pass<T>>,
-)
+pub fn take_in<T: Kept>(shared: &TurnShared<T>, seat: &mut TurnSeat<T>, mut passes: Vec<Pass<T>>)
     requires words { 0 < shared.now.table_id.words }
     requires table { seat.old.table_id ≡ shared.now.table_id }
     requires seat { seat.old.me ≡ (keeper seat.old.me.0.past, []) }
@@ -22,7 +18,10 @@ pub fn take_in<T: Kept>(
     ensures seat { seat.new.me ≡ (keeper (map remembered passes.items ++ seat.old.me.0.past), []) }
 {
     while let Some(pass) = passes.pop() {
-        let Pass { number: _, seat: taken } = pass;
+        let Pass {
+            number: _,
+            seat: taken,
+        } = pass;
         shared.join_seat::<TakeIn>(seat, taken);
     }
     passes.destroy_empty();
@@ -38,7 +37,7 @@ pub fn finish<T: Kept>(table: TurnTable<T>, seat: TurnSeat<T>) -> T
     ensures passes { FitsPasts T.entries T.caller T.count table.shared.key.passes seat.me.0.past result }
 {
     let mut closed = table.close_with(seat);
-    let value = closed.take(0);
+    let value = closed.take(VALUE);
     closed.free();
     value.unwrap()
 }

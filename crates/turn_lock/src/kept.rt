@@ -5,6 +5,7 @@ ghost use Rattle.std.specs.Prelude.{◌≡◌, ◌≤◌, ℕ, List, ◌++◌};
 /// no hold changes.
 pub trait Kept {
     type Entry;
+
     type Ground;
 
     // The entries so far, in order.

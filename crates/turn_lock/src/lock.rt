@@ -3,13 +3,13 @@ ghost use Rattle.std.specs.Prelude.{◌≡◌, ◌+◌, ◌<◌, ◌≤◌, ℕ,
 ghost use Rattle.std.specs.Borrow.{sem};
 ghost use Rattle.turn_lock.specs.declared.view.Look.TheVariants.{Turn, Count};
 ghost use Rattle.turn_lock.specs.Entries.{AddsOwn, entries_of};
-ghost use Rattle.turn_lock.specs.Passes.{IsOf, KeepsWord, AreNew, AreIdleInOrder};
+ghost use Rattle.turn_lock.specs.Passes.{IsOf, AgreesWith, AreNew, AreIdleInOrder};
 
 use crate::closing::{finish, take_in};
 use crate::kept::Kept;
 use crate::making::{deal, open};
-use crate::plays::{Grab, Read, Release, Tally, Watch};
-use crate::rule::{TurnSeat, TurnTable};
+use crate::plays::{Acquire, LoadCount, Observe, Release, StoreCount};
+use crate::rule::{COUNT, TURN, TurnSeat, TurnTable, VALUE};
 use std::alloc::{AllocError, Global};
 use std::marker::Model;
 use std::sync::Wait;
@@ -87,8 +87,8 @@ impl<T: Kept + Drop> TurnLock<T> {
         requires empty { T.entries value ≡ [] }
         requires some { 0 < passes }
         requires most { passes ≤ 80 }
-        ensures lock { IfOk result (λ made. (made.0.basis ≡ T.basis value) × (made.0.passes ≡ passes)) }
-        ensures count { IfOk result (λ made. length made.1.items ≡ passes) }
+        ensures ground { IfOk result (λ made. made.0.basis ≡ T.basis value) }
+        ensures number { IfOk result (λ made. (made.0.passes ≡ passes) × (length made.1.items ≡ passes)) }
         ensures passes { IfOk result (λ made. AreNew made.0 (T.count value) made.1.items) }
     {
         let mut dealt = Vec::with_capacity(alloc, passes as usize)?;
@@ -104,14 +104,14 @@ impl<T: Kept> TurnLock<T> {
         requires lock { IsOf self.now pass.old }
         requires idle { pass.old.idle ≡ true }
         ensures ground { T.basis result.value ≡ self.now.basis }
-        ensures shown { KeepsWord T.entries T.caller T.count pass.old result.value }
+        ensures shown { AgreesWith T.entries T.caller T.count pass.old result.value }
         // The turn was got by the last exchange, and found taken by those before it.
         ensures pass { (found : List ℕ) × All (λ word. 0 < word) found × (pass.new ≡ record pass.old { seen = T.entries result.value; idle = false; looks = pass.old.looks ++ map Turn found ++ Turn 0 ∷ [] }) }
     {
         for _ in rt.forever() {
             match self.try_enter(pass) {
                 Ok(held) => return held,
-                Err(found) => self.table.shared.park(rt, 0, found as u32),
+                Err(found) => self.table.shared.park(rt, TURN, found as u32),
             }
         }
         unreachable!()
@@ -122,17 +122,17 @@ impl<T: Kept> TurnLock<T> {
         requires lock { IsOf self.now pass.old }
         requires idle { pass.old.idle ≡ true }
         ensures ground { IfOk result (λ held. T.basis held.value ≡ self.now.basis) }
-        ensures shown { IfOk result (λ held. KeepsWord T.entries T.caller T.count pass.old held.value) }
+        ensures shown { IfOk result (λ held. AgreesWith T.entries T.caller T.count pass.old held.value) }
         ensures pass { IfOk result (λ held. pass.new ≡ record pass.old { seen = T.entries held.value; idle = false; looks = pass.old.looks ++ Turn 0 ∷ [] }) }
         ensures refusal { IfErr result (λ found. (0 < found) × (found ≤ 80)) }
         ensures refused { IfErr result (λ found. pass.new ≡ record pass.old { looks = pass.old.looks ++ Turn found ∷ [] }) }
     {
         let shared = &self.table.shared;
-        let found = shared.compare_exchange::<Grab>(&mut pass.seat, 0, 0, pass.number as u64);
+        let found = shared.compare_exchange::<Acquire>(&mut pass.seat, TURN, 0, pass.number as u64);
         if found != 0 {
             return Err(found);
         }
-        let value = shared.exchange(&mut pass.seat, 0, None).unwrap();
+        let value = shared.exchange(&mut pass.seat, VALUE, None).unwrap();
         Ok(Held { value })
     }
 
@@ -148,11 +148,11 @@ impl<T: Kept> TurnLock<T> {
         let shared = &self.table.shared;
         let Held { value } = held;
         let count = value.count_now();
-        let left = shared.exchange(&mut pass.seat, 0, Some(value));
+        let left = shared.exchange(&mut pass.seat, VALUE, Some(value));
         let None = left else { unreachable!() };
-        shared.store::<Tally>(&mut pass.seat, 1, count);
-        shared.store::<Release>(&mut pass.seat, 0, 0);
-        shared.wake_one(0);
+        shared.store::<StoreCount>(&mut pass.seat, COUNT, count);
+        shared.store::<Release>(&mut pass.seat, TURN, 0);
+        shared.wake_one(TURN);
     }
 
     /// The count, by one load and without the turn. The pass's next hold shows no lower one.
@@ -161,7 +161,7 @@ impl<T: Kept> TurnLock<T> {
         ensures least { pass.old.floor ≤ result }
         ensures pass { pass.new ≡ record pass.old { floor = result; looks = pass.old.looks ++ Count result ∷ [] } }
     {
-        self.table.shared.load::<Read>(&mut pass.seat, 1)
+        self.table.shared.load::<LoadCount>(&mut pass.seat, COUNT)
     }
 
     /// Ends the lock, for which all its passes come back, in the order of their numbers: those of `front`, then those
@@ -171,9 +171,9 @@ impl<T: Kept> TurnLock<T> {
         requires passes { AreIdleInOrder self (front.items ++ rest.items) }
         ensures ground { T.basis result ≡ self.basis }
         ensures callers { All (λ e. (0 < T.caller e) × (T.caller e ≤ self.passes)) (T.entries result) }
-        ensures passes { All (λ pass. KeepsWord T.entries T.caller T.count pass result) (front.items ++ rest.items) }
+        ensures passes { All (λ pass. AgreesWith T.entries T.caller T.count pass result) (front.items ++ rest.items) }
     {
-        let (_, mut seat) = self.table.shared.load_new_seat::<Watch>(0);
+        let (_, mut seat) = self.table.shared.load_new_seat::<Observe>(TURN);
         take_in(&self.table.shared, &mut seat, rest);
         take_in(&self.table.shared, &mut seat, front);
         let TurnLock { table, passes: _ } = self;

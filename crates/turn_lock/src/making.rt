@@ -1,11 +1,11 @@
 // How a lock and its passes are made.
 ghost use Rattle.std.specs.Prelude.{◌≡◌, ◌<◌, ◌≤◌, [], ◌∷◌, length, vec_capacity, IfOk};
-ghost use Rattle.turn_lock.specs.Turns.{opener};
+ghost use Rattle.turn_lock.specs.Turns.{first_pass};
 ghost use Rattle.turn_lock.specs.Passes.{AreNew};
 
 use crate::kept::Kept;
 use crate::lock::{Pass, TurnLock};
-use crate::plays::Number;
+use crate::plays::NextPass;
 use crate::rule::{About, TurnSeat};
 use atomic_table::Table;
 use std::alloc::{AllocError, Global};
@@ -21,7 +21,7 @@ pub fn open<T: Kept + Drop>(
     requires some { 0 < passes }
     requires most { passes ≤ 80 }
     ensures lock { IfOk result (λ made. (made.0.basis ≡ T.basis value) × (made.0.passes ≡ passes)) }
-    ensures seat { IfOk result (λ made. (made.1.table_id ≡ made.0.id) × (made.1.me ≡ (opener (T.basis value) (T.count value), []))) }
+    ensures seat { IfOk result (λ made. (made.1.table_id ≡ made.0.id) × (made.1.me ≡ (first_pass (T.basis value) (T.count value), []))) }
 {
     let about = About {
         value: Snapshot::of(&value),
@@ -41,7 +41,7 @@ pub fn deal<T: Kept>(lock: &TurnLock<T>, first: TurnSeat<T>, dealt: &mut Vec<Pas
     requires some { 0 < lock.now.passes }
     requires most { lock.now.passes ≤ 80 }
     requires table { first.table_id ≡ lock.now.id }
-    requires first { first.me ≡ (opener lock.now.basis first.me.0.floor, []) }
+    requires first { first.me ≡ (first_pass lock.now.basis first.me.0.floor, []) }
     requires empty { dealt.old.items ≡ [] }
     requires room { lock.now.passes ≤ vec_capacity dealt.old }
     ensures count { length dealt.new.items ≡ lock.now.passes }
@@ -49,7 +49,7 @@ pub fn deal<T: Kept>(lock: &TurnLock<T>, first: TurnSeat<T>, dealt: &mut Vec<Pas
 {
     let mut seat = first;
     for number in 1..lock.passes {
-        let next = lock.table.shared.split_seat::<Number>(&mut seat);
+        let next = lock.table.shared.split_seat::<NextPass>(&mut seat);
         dealt.push_reserved(Pass { number, seat });
         seat = next;
     }

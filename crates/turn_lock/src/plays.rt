@@ -4,21 +4,21 @@ use crate::view::SeatView;
 use atomic_table::{Join, Play, Split};
 
 // The exchange on the turn word, of 0 by the pass's number.
-pub struct Grab;
+pub struct Acquire;
 
-impl<T: Kept> Play<Option<T>, SeatView<T::Entry, T::Ground>> for Grab {
-    ghost use Rattle.turn_lock.specs.Turns.{grabbed};
+impl<T: Kept> Play<Option<T>, SeatView<T::Entry, T::Ground>> for Acquire {
+    ghost use Rattle.turn_lock.specs.Turns.{acquired};
 
-    ghost then = { grabbed T.entries T.caller T.count T.basis };
+    ghost then = { acquired T.entries T.caller T.count T.basis };
 }
 
 // The store of the count, once the value is back in the seat's slot.
-pub struct Tally;
+pub struct StoreCount;
 
-impl<T: Kept> Play<Option<T>, SeatView<T::Entry, T::Ground>> for Tally {
-    ghost use Rattle.turn_lock.specs.Turns.{tallied};
+impl<T: Kept> Play<Option<T>, SeatView<T::Entry, T::Ground>> for StoreCount {
+    ghost use Rattle.turn_lock.specs.Turns.{count_stored};
 
-    ghost then = { tallied T.entries T.caller };
+    ghost then = { count_stored T.entries T.caller };
 }
 
 // The store of 0 in the turn word, by which the slot goes home.
@@ -31,18 +31,18 @@ impl<T: Kept> Play<Option<T>, SeatView<T::Entry, T::Ground>> for Release {
 }
 
 // The load of the count word.
-pub struct Read;
+pub struct LoadCount;
 
-impl<T: Kept> Play<Option<T>, SeatView<T::Entry, T::Ground>> for Read {
-    ghost use Rattle.turn_lock.specs.Turns.{was_read};
+impl<T: Kept> Play<Option<T>, SeatView<T::Entry, T::Ground>> for LoadCount {
+    ghost use Rattle.turn_lock.specs.Turns.{count_loaded};
 
-    ghost then = { was_read };
+    ghost then = { count_loaded };
 }
 
 // A seat for one more pass. The right to number the next one goes with the newest seat, so passes come in order.
-pub struct Number;
+pub struct NextPass;
 
-impl<E, G> Split<SeatView<E, G>> for Number {
+impl<E, G> Split<SeatView<E, G>> for NextPass {
     ghost use Rattle.turn_lock.specs.Turns.{numbered, newcomer};
 
     ghost left = { numbered };
@@ -51,12 +51,12 @@ impl<E, G> Split<SeatView<E, G>> for Number {
 }
 
 // A load by which the seat of no pass comes in, to close the lock with.
-pub struct Watch;
+pub struct Observe;
 
-impl<T: Kept> Play<Option<T>, SeatView<T::Entry, T::Ground>> for Watch {
-    ghost use Rattle.turn_lock.specs.Turns.{watching};
+impl<T: Kept> Play<Option<T>, SeatView<T::Entry, T::Ground>> for Observe {
+    ghost use Rattle.turn_lock.specs.Turns.{observed};
 
-    ghost then = { watching };
+    ghost then = { observed };
 }
 
 // A pass's seat is given up to the seat of no pass, which remembers it.

@@ -7,6 +7,13 @@ use std::alloc::Global;
 use std::marker::PhantomData;
 use std::snapshot::Snapshot;
 
+// The two words and the one slot, by their places in the table.
+pub const TURN: usize = 0;
+
+pub const COUNT: usize = 1;
+
+pub const VALUE: usize = 0;
+
 // What the rule reads of the value that the lock was made with, and how many passes there are.
 #[derive(Drop)]
 pub struct About<T> {
@@ -19,13 +26,12 @@ pub struct Turns<T> {
 }
 
 impl<T: Kept> TableRule<Option<T>, SeatView<T::Entry, T::Ground>, About<T>> for Turns<T> {
-    ghost use Rattle.turn_lock.specs.Turns.{IsOneHistory, opener};
+    ghost use Rattle.turn_lock.specs.Turns.{IsOneHistory, first_pass};
 
     ghost holds = { λ about. IsOneHistory T.entries T.caller T.count T.basis (T.basis about.value.value) about.passes };
 
-    ghost first = { λ about. opener (T.basis about.value.value) (T.count about.value.value) };
+    ghost first = { λ about. first_pass (T.basis about.value.value) (T.count about.value.value) };
 }
-
 
 pub type TurnView<T> = SeatView<<T as Kept>::Entry, <T as Kept>::Ground>;
 

@@ -19,7 +19,7 @@ join_seat-requires g c =
       c.requires.words,
       subst (λ v. Joins (Rule k.entries k.caller k.count k.basis (k.basis key.value.value) key.passes) c.loop-pass.seat.id v pass.id pass.me.0 (remembering v pass.me.0) blank) (sym (ap (λ m. m.0) c.loop-pass.invariant.taken.2))
           (takes_in k.entries k.caller k.count k.basis (k.basis key.value.value) key.passes c.loop-pass.seat.id pass.id (map remembered c.loop-pass.invariant.taken.0 ++ c.args.seat.now.me.0.past) pass.me.0
-              (subst (λ n. 0 < n) (sym c.pass.invariant.number_is) c.pass.invariant.least) idle),
+          (subst (λ n. 0 < n) (sym c.pass.invariant.number_is) c.pass.invariant.least) idle),
     )
 
 pub loop-pass-preserved : goal.loop-pass-preserved

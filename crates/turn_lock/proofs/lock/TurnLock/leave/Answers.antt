@@ -1,6 +1,6 @@
 use Rattle.std.proofs.Common.{◌≡◌, ◌<◌, ◌++◌, sym, ap, ◌∙◌, arith}
 use Rattle.turn_lock.proofs.Passes.{same_table}
-use Rattle.turn_lock.proofs.Steps.{tallies, releases}
+use Rattle.turn_lock.proofs.Steps.{stores, releases}
 use Rattle.turn_lock.proofs.PutBack.{puts_back, tells, own_grows}
 use Rattle.turn_lock.proofs.lock.TurnLock.leave.Goals as goal
 
@@ -11,7 +11,7 @@ store-requires g c =
     let back = puts_back k.entries k.caller c.pass.invariant c.pass.view_is moved.3 c.requires.busy c.requires.added in (
       moved.0 ∙ same_table c.pass.view_is c.requires.lock c.self.view_is,
       omega arith,
-      tallies k.entries k.caller k.count k.basis (k.basis shared.key.value.value) shared.key.passes g.met.T.Kept.counts_up shared.table_id.slots seat.id c.count_now-count.result seat.me c.args.held.value
+      stores k.entries k.caller k.count k.basis (k.basis shared.key.value.value) shared.key.passes g.met.T.Kept.counts_up shared.table_id.slots seat.id c.count_now-count.result seat.me c.args.held.value
           c.requires.added.0 back.has back.low back.busy (c.requires.ground ∙ sym (ap (λ l. l.basis) c.self.view_is)) back.longer back.own c.count_now-count.ensures,
     )
 
