@@ -1,16 +1,15 @@
 -- The rule at the start, and as passes are numbered.
-use Rattle.std.proofs.Common.{◌≡◌, ◌≢◌, ℕ, zero, suc, ◌+◌, ◌<◌, ◌≤◌, ◌⊎◌, true, false, List, [], ◌∷◌, ◌++◌, Option, Some, All, length, set, sym, refl, ap, ◌∙◌, subst, ⊎_elim, le_refl, true≢false, arith}
+use Rattle.std.proofs.Common.{◌≡◌, ◌≢◌, ℕ, zero, suc, ◌+◌, ◌<◌, ◌≤◌, List, [], ◌∷◌, Option, Some, length, set, sym, refl, ap, ◌∙◌, subst, ⊎_elim, le_refl, true≢false, arith}
 use mathlib.Core.Option.{some, some-injective, some-ne-none}
 use lib.ListN.{get_elem?}
 use Rattle.std.proofs.Math.Nat.{eq-zero-or-pos}
 use Rattle.std.proofs.lemmas.List.Elements.{All-nil, All-weaker}
-use Rattle.atomic_table.specs.Table.{State, Splits, opening}
+use Rattle.atomic_table.specs.Table.{Splits, opening}
 use Rattle.atomic_table.proofs.Lists.{at_set, at_longer}
-use Rattle.turn_lock.specs.declared.view.PastView.{PastView}
 use Rattle.turn_lock.specs.declared.view.SeatView.{SeatView}
-use Rattle.turn_lock.specs.Turns.{FitsPass, FitsPast, IsOneHistory, first_pass, numbered, newcomer}
+use Rattle.turn_lock.specs.Turns.{FitsPass, first_pass, numbered, newcomer}
 use Rattle.turn_lock.proofs.Entries.{of_others, starts_nil}
-use Rattle.turn_lock.proofs.Seats.{at_end, at_longer_end, still_seated, stood}
+use Rattle.turn_lock.proofs.Seats.{at_end, still_seated, stood}
 use Rattle.turn_lock.proofs.Steps.{Rule, turn_within}
 
 alone : {A : Type 0} (a b : A) (j : ℕ) → get_elem? (a ∷ []) j ≡ some b → (j ≡ 0) × (a ≡ b)
@@ -20,7 +19,7 @@ alone a b (suc j) e = absurd (some-ne-none b (sym e))
 module _ {T E G : Type 0} (entries : T → List E) (caller : E → ℕ) (count : T → ℕ) (basis : T → G) (g : G) (most : ℕ) where
   pub opens : (value : T) (tally : ℕ) (slots : List (Option T)) → slots ≡ Some value ∷ [] → entries value ≡ [] → basis value ≡ g → tally ≡ count value → 0 < most → most ≤ 80
       → Rule entries caller count basis g most (opening (0 ∷ tally ∷ []) slots (first_pass g (count value)))
-  opens value tally slots has empty ground is some_pass few =
+  opens value tally slots has empty based is some_pass few =
       subst (λ xs. Rule entries caller count basis g most (opening (0 ∷ tally ∷ []) xs (first_pass g (count value)))) (sym has)
       (record {
         log = [];
@@ -31,8 +30,8 @@ module _ {T E G : Type 0} (entries : T → List E) (caller : E → ℕ) (count :
         words = refl;
         known = All-nil (λ e. (0 < caller e) × (caller e ≤ 1));
         few = (omega arith, few);
-        counted = record { value = value; entries_are = empty; basis_is = ground; count_is = sym is };
-        slot = record { home = λ _. (value, refl, empty, ground); out = λ h. absurd (omega arith) };
+        counted = record { value = value; entries_are = empty; basis_is = based; count_is = sym is };
+        slot = record { home = λ _. (value, refl, empty, based); out = λ h. absurd (omega arith) };
         holder = λ h. absurd (omega arith);
         each = λ j u there _.
             let h = alone (first_pass g (count value)) u j there in

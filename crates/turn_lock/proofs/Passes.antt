@@ -1,5 +1,5 @@
 -- A pass, its seat, and the lock that it was made with.
-use Rattle.std.proofs.Common.{◌≡◌, ◌≢◌, ℕ, zero, suc, ◌+◌, ◌-◌, ◌<◌, true, false, List, [], ◌∷◌, ◌++◌, Option, Some, None, All, length, map, get_or, sym, refl, ap, ◌∙◌, subst, ⊎_elim, append_assoc, append-nil, length-append, eq-or-lt_of_le, arith}
+use Rattle.std.proofs.Common.{◌≡◌, ℕ, zero, suc, ◌+◌, ◌-◌, ◌<◌, true, List, [], ◌∷◌, ◌++◌, All, length, map, get_or, sym, refl, ap, ◌∙◌, subst, ⊎_elim, append_assoc, append-nil, length-append, eq-or-lt_of_le, arith}
 use Rattle.std.proofs.lemmas.List.{get_or_append_left, get_or-append-add, map-append}
 use Rattle.std.proofs.Math.Seq.{get_or-append_seam}
 use Rattle.turn_lock.specs.declared.view.Look.{Look}

@@ -1,5 +1,5 @@
 -- Each step of a pass that has its number keeps the rule.
-use Rattle.std.proofs.Common.{◌≡◌, ◌≢◌, ℕ, zero, suc, ◌+◌, ◌<◌, ◌≤◌, true, false, List, [], ◌∷◌, ◌++◌, Option, Some, None, All, length, get_or, set, eqb, sym, refl, ap, ◌∙◌, subst, ⊎_elim, append-nil, le_trans, le_of_eq, le_refl, true≢false, arith}
+use Rattle.std.proofs.Common.{◌≡◌, ◌≢◌, ℕ, ◌<◌, ◌≤◌, false, List, [], ◌∷◌, ◌++◌, Option, Some, All, length, get_or, set, eqb, sym, refl, ap, ◌∙◌, subst, ⊎_elim, append-nil, le_trans, le_of_eq, le_refl, true≢false, arith}
 use mathlib.Core.Option.{Option as Maybe, some, none}
 use prog.Atomic.{either}
 use lib.ListN.{get_elem?}
@@ -7,11 +7,10 @@ use Rattle.std.proofs.Math.Nat.{eq-zero-or-pos}
 use Rattle.std.proofs.lemmas.List.Elements.{All-append, All-weaker}
 use Rattle.atomic_table.specs.Table.{State, Me, Act, keeps, takes, gives, step, stepped, carried_after, Valid, Allows}
 use Rattle.atomic_table.proofs.Lists.{at_set, set_here, exchanged}
-use Rattle.turn_lock.specs.declared.view.Look.TheVariants.{Turn}
 use Rattle.turn_lock.specs.declared.view.PastView.{PastView}
 use Rattle.turn_lock.specs.declared.view.SeatView.{SeatView}
 use Rattle.turn_lock.specs.Entries.{StartsWith, entries_of}
-use Rattle.turn_lock.specs.Turns.{FitsPass, FitsPast, FitsSlot, IsCountOf, IsOneHistory, IsSeated, IsGone, Shows, holding, refused, tallying, leaving, counting, acquired, count_stored, released, count_loaded}
+use Rattle.turn_lock.specs.Turns.{FitsPass, FitsPast, FitsSlot, IsCountOf, IsOneHistory, IsSeated, Shows, holding, refused, tallying, leaving, counting, acquired, count_stored, released, count_loaded}
 use Rattle.turn_lock.proofs.Entries.{starts_self, starts_on, of_same}
 use Rattle.turn_lock.proofs.Seats.{still_seated, stood}
 
@@ -84,14 +83,14 @@ module _ {T E G : Type 0} (entries : T → List E) (caller : E → ℕ) (count :
     -- a value with the history for its entries shows a pass what the rule says of it
     shows : (s : State (Option T) (SeatView E G)) (o : Rule s) (j : ℕ) (v : SeatView E G) (value : T) → entries value ≡ o.log → basis value ≡ g
         → FitsPass caller g o.log o.turn o.tally o.top o.numberer j v → Shows entries caller count basis v value
-    shows s o j v value is ground fits =
+    shows s o j v value is based fits =
         let c = o.counted in
-        let up : count c.value ≤ count value = counts_up c.value value [] (c.basis_is ∙ sym ground) (is ∙ (sym c.entries_are ∙ sym (append-nil (entries c.value)))) in
+        let up : count c.value ≤ count value = counts_up c.value value [] (c.basis_is ∙ sym based) (is ∙ (sym c.entries_are ∙ sym (append-nil (entries c.value)))) in
         record {
           seen = subst (λ l. StartsWith l v.seen) (sym is) fits.seen;
           own = ap (λ l. entries_of caller v.number l) is ∙ fits.own;
           floor = le_trans fits.floor (subst (λ n. n ≤ count value) c.count_is up);
-          basis_is = fits.basis ∙ ap (λ x. Some x) (sym ground);
+          basis_is = fits.basis ∙ ap (λ x. Some x) (sym based);
         }
 
     pub acquires : (slots id number : ℕ) (m : Me (Option T) (SeatView E G)) → slots ≡ 1 → m.0.number ≡ number → 0 < number
@@ -156,7 +155,7 @@ module _ {T E G : Type 0} (entries : T → List E) (caller : E → ℕ) (count :
     pub stores : (slots id n : ℕ) (m : Me (Option T) (SeatView E G)) (value : T) (added : List E) → m.1 ≡ (0, Some value) ∷ [] → 0 < m.0.number → m.0.idle ≡ false
         → basis value ≡ g → entries value ≡ m.0.seen ++ added → All (λ e. caller e ≡ m.0.number) added → n ≡ count value
         → Allows Rule slots id m 1 (λ _. n) (λ _. count_stored entries caller (step slots 1 n 0 none) m n)
-    stores slots id n m value added has low busy ground longer own is =
+    stores slots id n m value added has low busy based longer own is =
         subst (λ c. Allows Rule slots id (m.0, c) 1 (λ _. n) (λ _. count_stored entries caller (step slots 1 n 0 none) (m.0, c) n)) (sym has)
         (λ s o wide at _.
         let v = m.0 in
@@ -164,7 +163,7 @@ module _ {T E G : Type 0} (entries : T → List E) (caller : E → ℕ) (count :
         let held = fits.busy busy in
         let grown : entries value ≡ o.log ++ added = longer ∙ ap (λ l. l ++ added) held.1 in
         let c = o.counted in
-        let up : count c.value ≤ count value = counts_up c.value value added (c.basis_is ∙ sym ground) (grown ∙ ap (λ l. l ++ added) (sym c.entries_are)) in
+        let up : count c.value ≤ count value = counts_up c.value value added (c.basis_is ∙ sym based) (grown ∙ ap (λ l. l ++ added) (sym c.entries_are)) in
         let up' : o.tally ≤ n = subst (λ k. k ≤ n) c.count_is (subst (λ k. count c.value ≤ k) (sym is) up) in
         let w = tallying v (entries value) (entries_of caller v.number (entries value)) n in
         let seen_on = λ (seen : List E) (h : StartsWith o.log seen). subst (λ l. StartsWith l seen) (sym grown) (starts_on o.log seen added h) in
@@ -176,7 +175,7 @@ module _ {T E G : Type 0} (entries : T → List E) (caller : E → ℕ) (count :
               (subst (All (λ e. (0 < caller e) × (caller e ≤ o.top))) (sym grown)
               (All-append (λ e. (0 < caller e) × (caller e ≤ o.top)) o.log added o.known
               (All-weaker (λ e. caller e ≡ v.number) (λ e. (0 < caller e) × (caller e ≤ o.top)) (λ e mine. (subst (λ k. 0 < k) (sym mine) low, subst (λ k. k ≤ o.top) (sym mine) fits.most)) added own)))
-              (record { value = value; entries_are = refl; basis_is = ground; count_is = sym is })
+              (record { value = value; entries_are = refl; basis_is = based; count_is = sym is })
               (record { home = λ free. let t = held.0 in absurd (omega arith); out = o.slot.out })
               o.holder
               (record {
@@ -208,7 +207,7 @@ module _ {T E G : Type 0} (entries : T → List E) (caller : E → ℕ) (count :
   pub releases : (slots id : ℕ) (m : Me (Option T) (SeatView E G)) (value : T) → slots ≡ 1 → m.1 ≡ (0, Some value) ∷ [] → 0 < m.0.number → m.0.idle ≡ false
       → basis value ≡ g → entries value ≡ m.0.seen
       → Allows Rule slots id m 0 (λ _. 0) (λ _. released {T = T} (step slots 0 0 0 none) m 0)
-  releases slots id m value one has low busy ground seen =
+  releases slots id m value one has low busy based seen =
       subst (λ c. Allows Rule slots id (m.0, c) 0 (λ _. 0) (λ _. released {T = T} (step slots 0 0 0 none) (m.0, c) 0)) (sym has)
       (λ s o wide at _.
       let v = m.0 in
@@ -219,7 +218,7 @@ module _ {T E G : Type 0} (entries : T → List E) (caller : E → ℕ) (count :
         gives,
         tt,
         restep s o id v (leaving v) at low refl refl (set s.words 0 0) (set s.homes 0 (some (Some value))) o.log 0 o.tally (ap (λ ws. set ws 0 0) o.words) o.known o.counted
-            (record { home = λ _. (value, set_here s.homes 0 (some (Some value)) inside, seen ∙ held.1, ground); out = λ h. absurd (omega arith) })
+            (record { home = λ _. (value, set_here s.homes 0 (some (Some value)) inside, seen ∙ held.1, based); out = λ h. absurd (omega arith) })
             (λ h. absurd (omega arith))
             (record {
               least = low;

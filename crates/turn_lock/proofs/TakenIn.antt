@@ -1,5 +1,5 @@
 -- The rule as passes are taken in, and at the end.
-use Rattle.std.proofs.Common.{◌≡◌, ◌≢◌, ℕ, zero, suc, ◌+◌, ◌<◌, ◌≤◌, ◌⊎◌, true, List, [], ◌∷◌, ◌++◌, Option, Some, IsSome, All, length, set, sym, refl, ap, ◌∙◌, subst, inl, inr, ⊎_elim, append-nil, le_trans, arith}
+use Rattle.std.proofs.Common.{◌≡◌, ◌≢◌, ℕ, zero, suc, ◌<◌, ◌≤◌, ◌⊎◌, true, List, [], ◌∷◌, Option, Some, IsSome, All, length, set, sym, refl, ap, ◌∙◌, subst, inl, inr, ⊎_elim, append-nil, le_trans, arith}
 use mathlib.Core.Option.{some, none, some-injective, some-ne-none}
 use lib.ListN.{get_elem?}
 use Rattle.std.proofs.Math.Nat.{eq-zero-or-pos}
@@ -9,7 +9,7 @@ use Rattle.atomic_table.proofs.Lists.{at_set, set_else, at_longer}
 use Rattle.turn_lock.specs.declared.view.PastView.{PastView}
 use Rattle.turn_lock.specs.declared.view.SeatView.{SeatView}
 use Rattle.turn_lock.specs.Entries.{StartsWith, entries_of}
-use Rattle.turn_lock.specs.Turns.{FitsPast, IsOneHistory, IsGone, keeper, blank, observed, past_of, remembering}
+use Rattle.turn_lock.specs.Turns.{FitsPast, IsGone, keeper, blank, observed, past_of, remembering}
 use Rattle.turn_lock.specs.Passes.{AllPast, FitsPasts}
 use Rattle.turn_lock.proofs.Seats.{at_end, same_at}
 use Rattle.turn_lock.proofs.Steps.{Rule, CountsUp}
@@ -118,7 +118,7 @@ module _ {T E G : Type 0} (entries : T → List E) (caller : E → ℕ) (count :
 
   -- What the value of a table is, all of whose passes are past ones of one seat.
   pub record IsLast (pasts : List (PastView E)) (value : T) : Type 0 where
-    pub ground : basis value ≡ g
+    pub based : basis value ≡ g
     pub known : All (λ e. (0 < caller e) × (caller e ≤ most)) (entries value)
     pub fits : FitsPasts entries caller count most pasts value
 
@@ -148,7 +148,7 @@ module _ {T E G : Type 0} (entries : T → List E) (caller : E → ℕ) (count :
         value,
         last.4 0 (Some value) h.1,
         record {
-          ground = h.3;
+          based = h.3;
           known = subst (All (λ e. (0 < caller e) × (caller e ≤ most))) (sym h.2)
               (All-weaker (λ e. (0 < caller e) × (caller e ≤ o.top)) (λ e. (0 < caller e) × (caller e ≤ most)) (λ e k. (k.0, le_trans k.1 few)) o.log o.known);
           fits = λ k x there.

@@ -3,7 +3,6 @@ use Rattle.std.specs.Prelude.{◌≡◌, ◌≢◌, ℕ, ◌+◌, ◌<◌, ◌�
 use mathlib.Core.Option.{Option as Maybe, some, none}
 use lib.ListN.{get_elem?}
 use Rattle.atomic_table.specs.Table.{State, Me, Step, rest}
-use Rattle.turn_lock.specs.declared.view.Look.{Look}
 use Rattle.turn_lock.specs.declared.view.Look.TheVariants.{Turn, Count}
 use Rattle.turn_lock.specs.declared.view.PastView.{PastView}
 use Rattle.turn_lock.specs.declared.view.SeatView.{SeatView}

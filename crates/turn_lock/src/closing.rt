@@ -32,7 +32,7 @@ pub fn finish<T: Kept>(table: TurnTable<T>, seat: TurnSeat<T>) -> T
     requires slots { table.shared.table_id.slots ≡ 1 }
     requires table { seat.table_id ≡ table.shared.table_id }
     requires all { AllPast table.shared.key.passes seat.me.0.past }
-    ensures ground { T.basis result ≡ T.basis table.shared.key.value.value }
+    ensures basis { T.basis result ≡ T.basis table.shared.key.value.value }
     ensures callers { All (λ e. (0 < T.caller e) × (T.caller e ≤ table.shared.key.passes)) (T.entries result) }
     ensures passes { FitsPasts T.entries T.caller T.count table.shared.key.passes seat.me.0.past result }
 {

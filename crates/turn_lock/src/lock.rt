@@ -87,7 +87,7 @@ impl<T: Kept + Drop> TurnLock<T> {
         requires empty { T.entries value ≡ [] }
         requires some { 0 < passes }
         requires most { passes ≤ 80 }
-        ensures ground { IfOk result (λ made. made.0.basis ≡ T.basis value) }
+        ensures basis { IfOk result (λ made. made.0.basis ≡ T.basis value) }
         ensures number { IfOk result (λ made. (made.0.passes ≡ passes) × (length made.1.items ≡ passes)) }
         ensures passes { IfOk result (λ made. AreNew made.0 (T.count value) made.1.items) }
     {
@@ -103,7 +103,7 @@ impl<T: Kept> TurnLock<T> {
     pub fn enter<R: Wait>(&self, rt: &R, pass: &mut Pass<T>) -> Held<T>
         requires lock { IsOf self.now pass.old }
         requires idle { pass.old.idle ≡ true }
-        ensures ground { T.basis result.value ≡ self.now.basis }
+        ensures basis { T.basis result.value ≡ self.now.basis }
         ensures shown { AgreesWith T.entries T.caller T.count pass.old result.value }
         // The turn was got by the last exchange, and found taken by those before it.
         ensures pass { (found : List ℕ) × All (λ word. 0 < word) found × (pass.new ≡ record pass.old { seen = T.entries result.value; idle = false; looks = pass.old.looks ++ map Turn found ++ Turn 0 ∷ [] }) }
@@ -121,7 +121,7 @@ impl<T: Kept> TurnLock<T> {
     pub fn try_enter(&self, pass: &mut Pass<T>) -> Result<Held<T>, u64>
         requires lock { IsOf self.now pass.old }
         requires idle { pass.old.idle ≡ true }
-        ensures ground { IfOk result (λ held. T.basis held.value ≡ self.now.basis) }
+        ensures basis { IfOk result (λ held. T.basis held.value ≡ self.now.basis) }
         ensures shown { IfOk result (λ held. AgreesWith T.entries T.caller T.count pass.old held.value) }
         ensures pass { IfOk result (λ held. pass.new ≡ record pass.old { seen = T.entries held.value; idle = false; looks = pass.old.looks ++ Turn 0 ∷ [] }) }
         ensures refusal { IfErr result (λ found. (0 < found) × (found ≤ 80)) }
@@ -140,7 +140,7 @@ impl<T: Kept> TurnLock<T> {
     pub fn leave(&self, pass: &mut Pass<T>, held: Held<T>)
         requires lock { IsOf self.now pass.old }
         requires busy { pass.old.idle ≡ false }
-        requires ground { T.basis held.value ≡ self.now.basis }
+        requires basis { T.basis held.value ≡ self.now.basis }
         requires added { AddsOwn T.caller pass.old.number pass.old.seen (T.entries held.value) }
         ensures pass { pass.new ≡ record pass.old { seen = T.entries held.value; own = entries_of T.caller pass.old.number (T.entries held.value); floor = T.count held.value; idle = true } }
         ensures own { (added : List T.Entry) × (T.entries held.value ≡ pass.old.seen ++ added) × (pass.new.own ≡ pass.old.own ++ added) }
@@ -169,7 +169,7 @@ impl<T: Kept> TurnLock<T> {
     pub fn close(self, front: Vec<Pass<T>>, rest: Vec<Pass<T>>) -> T
         requires all { length (front.items ++ rest.items) ≡ self.passes }
         requires passes { AreIdleInOrder self (front.items ++ rest.items) }
-        ensures ground { T.basis result ≡ self.basis }
+        ensures basis { T.basis result ≡ self.basis }
         ensures callers { All (λ e. (0 < T.caller e) × (T.caller e ≤ self.passes)) (T.entries result) }
         ensures passes { All (λ pass. AgreesWith T.entries T.caller T.count pass result) (front.items ++ rest.items) }
     {

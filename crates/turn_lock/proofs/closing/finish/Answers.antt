@@ -7,11 +7,11 @@ unwrap-requires g c =
     found_some k.entries k.caller k.count k.basis (k.basis key.value.value) key.passes g.met.T.Kept.counts_up _ _ c.args.seat.id c.args.seat.me.0 c.close_with-closed.ensures.values.2 c.requires.all
     c.take-value.result c.take-value.ensures.value
 
-pub returns-clause-ground : goal.returns-clause-ground
-returns-clause-ground g c =
+pub returns-clause-basis : goal.returns-clause-basis
+returns-clause-basis g c =
     let k = g.T.Kept in let key = c.args.table.shared.key in
     (last_value k.entries k.caller k.count k.basis (k.basis key.value.value) key.passes g.met.T.Kept.counts_up _ _ c.args.seat.id c.args.seat.me.0 c.close_with-closed.ensures.values.2 c.requires.all
-    c.take-value.result c.unwrap.result c.take-value.ensures.value c.unwrap.ensures).ground
+    c.take-value.result c.unwrap.result c.take-value.ensures.value c.unwrap.ensures).based
 
 pub returns-clause-callers : goal.returns-clause-callers
 returns-clause-callers g c =

@@ -1,7 +1,6 @@
-use Rattle.std.proofs.Common.{◌≡◌, ◌<◌, true, List, [], ◌∷◌, ◌++◌, map, sym, refl, ap, ◌∙◌, subst, append-nil, arith}
-use Rattle.std.proofs.lemmas.List.{map-append}
+use Rattle.std.proofs.Common.{◌≡◌, true, ◌++◌, sym, ap, ◌∙◌, subst, arith}
 use Rattle.turn_lock.specs.Turns.{first_pass}
-use Rattle.turn_lock.specs.Passes.{remembered, AllPast, FitsPasts}
+use Rattle.turn_lock.specs.Passes.{AllPast, FitsPasts}
 use Rattle.turn_lock.proofs.TakenIn.{observes}
 use Rattle.turn_lock.proofs.Passes.{idle_of, all_past, all_agree, all_front, all_back, past_is}
 use Rattle.turn_lock.proofs.lock.TurnLock.close.Goals as goal

@@ -1,4 +1,4 @@
-use Rattle.std.proofs.Common.{◌≡◌, ◌<◌, ◌++◌, sym, ap, ◌∙◌, arith}
+use Rattle.std.proofs.Common.{◌++◌, sym, ap, ◌∙◌, arith}
 use Rattle.turn_lock.proofs.Passes.{same_table}
 use Rattle.turn_lock.proofs.Steps.{stores, releases}
 use Rattle.turn_lock.proofs.PutBack.{puts_back, tells, own_grows}
@@ -12,7 +12,7 @@ store-requires g c =
       moved.0 ∙ same_table c.pass.view_is c.requires.lock c.self.view_is,
       omega arith,
       stores k.entries k.caller k.count k.basis (k.basis shared.key.value.value) shared.key.passes g.met.T.Kept.counts_up shared.table_id.slots seat.id c.count_now-count.result seat.me c.args.held.value
-          c.requires.added.0 back.has back.low back.busy (c.requires.ground ∙ sym (ap (λ l. l.basis) c.self.view_is)) back.longer back.own c.count_now-count.ensures,
+          c.requires.added.0 back.has back.low back.busy (c.requires.basis ∙ sym (ap (λ l. l.basis) c.self.view_is)) back.longer back.own c.count_now-count.ensures,
     )
 
 pub store-requires-2 : goal.store-requires-2
@@ -24,7 +24,7 @@ store-requires-2 g c =
       c.store.ensures.0 ∙ (moved.0 ∙ same_table c.pass.view_is c.requires.lock c.self.view_is),
       omega arith,
       releases k.entries k.caller k.count k.basis (k.basis shared.key.value.value) shared.key.passes shared.table_id.slots seat.id seat.me c.args.held.value
-          c.self.invariant.1 told.has told.low told.busy (c.requires.ground ∙ sym (ap (λ l. l.basis) c.self.view_is)) told.seen,
+          c.self.invariant.1 told.has told.low told.busy (c.requires.basis ∙ sym (ap (λ l. l.basis) c.self.view_is)) told.seen,
     )
 
 pub returns-clause-own : goal.returns-clause-own

@@ -1,5 +1,5 @@
-use Rattle.std.proofs.Common.{◌≡◌, ◌<◌, sym, ap, ◌∙◌, subst, arith}
-use Rattle.turn_lock.proofs.Passes.{same_table, is_idle, took}
+use Rattle.std.proofs.Common.{ap, ◌∙◌, arith}
+use Rattle.turn_lock.proofs.Passes.{same_table, took}
 use Rattle.turn_lock.proofs.Steps.{acquires}
 use Rattle.turn_lock.proofs.lock.TurnLock.try_enter.Goals as goal
 
