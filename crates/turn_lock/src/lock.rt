@@ -106,7 +106,12 @@ impl<T: Kept> TurnLock<T> {
         ensures basis { T.basis result.value ≡ self.now.basis }
         ensures shown { AgreesWith T.entries T.caller T.count pass.old result.value }
         // The turn was got by the last exchange, and found taken by those before it.
-        ensures pass { (found : List ℕ) × All (λ word. 0 < word) found × (pass.new ≡ record pass.old { seen = T.entries result.value; idle = false; looks = pass.old.looks ++ map Turn found ++ Turn 0 ∷ [] }) }
+        ensures pass { (found : List ℕ) × All (λ word. 0 < word) found
+            × (pass.new ≡ record pass.old {
+              seen = T.entries result.value;
+              idle = false;
+              looks = pass.old.looks ++ map Turn found ++ Turn 0 ∷ [];
+            }) }
     {
         for _ in rt.forever() {
             match self.try_enter(pass) {
@@ -123,7 +128,11 @@ impl<T: Kept> TurnLock<T> {
         requires idle { pass.old.idle ≡ true }
         ensures basis { IfOk result (λ held. T.basis held.value ≡ self.now.basis) }
         ensures shown { IfOk result (λ held. AgreesWith T.entries T.caller T.count pass.old held.value) }
-        ensures pass { IfOk result (λ held. pass.new ≡ record pass.old { seen = T.entries held.value; idle = false; looks = pass.old.looks ++ Turn 0 ∷ [] }) }
+        ensures pass { IfOk result (λ held. pass.new ≡ record pass.old {
+          seen = T.entries held.value;
+          idle = false;
+          looks = pass.old.looks ++ Turn 0 ∷ [];
+        }) }
         ensures refusal { IfErr result (λ found. (0 < found) × (found ≤ 80)) }
         ensures refused { IfErr result (λ found. pass.new ≡ record pass.old { looks = pass.old.looks ++ Turn found ∷ [] }) }
     {
@@ -142,7 +151,12 @@ impl<T: Kept> TurnLock<T> {
         requires busy { pass.old.idle ≡ false }
         requires basis { T.basis held.value ≡ self.now.basis }
         requires added { AddsOwn T.caller pass.old.number pass.old.seen (T.entries held.value) }
-        ensures pass { pass.new ≡ record pass.old { seen = T.entries held.value; own = entries_of T.caller pass.old.number (T.entries held.value); floor = T.count held.value; idle = true } }
+        ensures pass { pass.new ≡ record pass.old {
+          seen = T.entries held.value;
+          own = entries_of T.caller pass.old.number (T.entries held.value);
+          floor = T.count held.value;
+          idle = true;
+        } }
         ensures own { (added : List T.Entry) × (T.entries held.value ≡ pass.old.seen ++ added) × (pass.new.own ≡ pass.old.own ++ added) }
     {
         let shared = &self.table.shared;
