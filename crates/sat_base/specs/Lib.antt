@@ -1,0 +1,3 @@
+pub mod Lit
+pub mod Truth
+pub mod Law
