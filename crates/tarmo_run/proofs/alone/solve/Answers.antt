@@ -3,7 +3,6 @@ use Rattle.std.proofs.lemmas.Result.{IfOk-weaker, on_err_weaker}
 use Rattle.run_io.specs.Bytes.{appended}
 use Rattle.tarmo_run.specs.declared.endings.Ending.TheVariants as endings
 use Rattle.tarmo_run.specs.Output.{last_line_of}
-use Rattle.tarmo_run.specs.Written.{Finished}
 use Rattle.tarmo_run.proofs.Closing.{finished, finished_in_line, finished_in_blocks}
 use Rattle.tarmo_run.proofs.Results.{OnErr-always}
 use Rattle.tarmo_run.proofs.alone.solve.Goals as goal

@@ -1,4 +1,4 @@
-use Rattle.std.proofs.Common.{◌≡◌, ◌∙◌, ap, sym, length}
+use Rattle.std.proofs.Common.{◌∙◌, ap, sym, length}
 use Rattle.std.proofs.Math.Seq.{take-length}
 use Rattle.run_io.specs.Bytes.{appended}
 use Rattle.tarmo_run.proofs.Results.{OnErr-always}
