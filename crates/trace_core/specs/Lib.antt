@@ -1,0 +1,4 @@
+pub mod Known
+pub mod Propagation
+pub mod Trace
+pub mod Law
