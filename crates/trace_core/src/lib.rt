@@ -6,8 +6,10 @@
 //! no solver and no shared database.
 #![tactic(auto)]
 
+mod block;
 mod derivation;
 mod laws;
+mod marks;
 
 pub use derivation::{Hints, Packet, Step, Steps};
 pub use laws::{
