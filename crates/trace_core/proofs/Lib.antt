@@ -1,3 +1,6 @@
 pub mod Soundness
 pub mod BlockLemmas
 pub mod MarkLemmas
+pub mod TagLemmas
+pub mod RunLemmas
+pub mod UnitLemmas

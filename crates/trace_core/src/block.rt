@@ -37,6 +37,7 @@ impl Model for KnownClauses {
 }
 
 /// A known clause and its tag.
+#[derive(Clone, Copy, Debug)]
 pub(crate) struct KnownClause<'a> {
     pub(crate) lits: &'a [Lit],
     pub(crate) tag: u32,

@@ -7,9 +7,11 @@
 #![tactic(auto)]
 
 mod block;
+mod database;
 mod derivation;
 mod laws;
 mod marks;
+mod unit_propagation;
 
 pub use derivation::{Hints, Packet, Step, Steps};
 pub use laws::{
