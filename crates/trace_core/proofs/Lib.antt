@@ -4,3 +4,4 @@ pub mod MarkLemmas
 pub mod TagLemmas
 pub mod RunLemmas
 pub mod UnitLemmas
+pub mod AssumeLemmas

@@ -12,7 +12,7 @@ use Rattle.trace_core.specs.declared.marks.Mark.TheVariants.{Free, Held, Uncover
 use Rattle.trace_core.specs.declared.marks.Found.{Found}
 use Rattle.trace_core.specs.declared.marks.Found.TheVariants.{Nothing, One, More}
 
-nothing_in : {X : Type 0} {A : Type 0} (x : X) → Contains [] x → A
+pub nothing_in : {X : Type 0} {A : Type 0} (x : X) → Contains [] x → A
 nothing_in x (k, lt, is) = absurd (omega arith)
 
 -- a scan that has looked at nothing
@@ -126,7 +126,7 @@ pub record Scanned (start : List Mark) (seen : List ℕ) (marks : List Mark) (fo
 pub scanned_none : (marks : List Mark) → Scanned marks [] marks Nothing
 scanned_none marks = record { is_found = found_none marks; holding = λ lit. refl; covered = covered_none marks }
 
-seen_more : (clause : List ℕ) (i lit : ℕ) → i < length clause → lit ≡ get_or clause i lit → take i clause ++ lit ∷ [] ≡ take (i + 1) clause
+pub seen_more : (clause : List ℕ) (i lit : ℕ) → i < length clause → lit ≡ get_or clause i lit → take i clause ++ lit ∷ [] ≡ take (i + 1) clause
 seen_more clause i lit lt is = ap (λ z. take i clause ++ z ∷ []) is ∙ sym (take_more clause i lit lt)
 
 -- the next literal isn't false

@@ -4,4 +4,5 @@ pub mod Propagation
 pub mod Trace
 pub mod Marking
 pub mod Checked
+pub mod Ready
 pub mod Law

@@ -7,12 +7,16 @@
 #![tactic(auto)]
 
 mod block;
+mod checker;
 mod database;
 mod derivation;
 mod laws;
 mod marks;
+mod room;
+mod step_check;
 mod unit_propagation;
 
+pub use checker::Checker;
 pub use derivation::{Hints, Packet, Step, Steps};
 pub use laws::{
     ok_step_stays_ok, proof_is_sound, step_is_sound, tag_bounds_inputs, tautology_holds,
