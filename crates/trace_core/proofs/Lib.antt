@@ -5,3 +5,4 @@ pub mod TagLemmas
 pub mod RunLemmas
 pub mod UnitLemmas
 pub mod AssumeLemmas
+pub mod RoomLemmas
