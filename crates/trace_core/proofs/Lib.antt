@@ -6,3 +6,4 @@ pub mod RunLemmas
 pub mod UnitLemmas
 pub mod AssumeLemmas
 pub mod RoomLemmas
+pub mod StepLemmas

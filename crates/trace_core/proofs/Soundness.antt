@@ -200,7 +200,7 @@ item_at-contains xs place x = guarded (place == 0)
 nothing_in : {X : Type 0} (x : X) → Contains [] x → ⊥
 nothing_in x (k, lt, is) = omega arith
 
-nothing_shared : (packet step : ℕ) (named : Known) → option_and_then (λ (steps : List Known). item_at steps step) (item_at [] packet) ≡ Some named → ⊥
+pub nothing_shared : (packet step : ℕ) (named : Known) → option_and_then (λ (steps : List Known). item_at steps step) (item_at [] packet) ≡ Some named → ⊥
 nothing_shared packet step named = guarded (packet == 0)
   where
     guarded : (b : Bool) → option_and_then (λ (steps : List Known). item_at steps step) (cond b None None) ≡ Some named → ⊥
