@@ -7,3 +7,4 @@ pub mod UnitLemmas
 pub mod AssumeLemmas
 pub mod RoomLemmas
 pub mod StepLemmas
+pub mod ReadyLemmas

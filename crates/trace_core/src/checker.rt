@@ -66,7 +66,8 @@ impl Checker {
     {
         let lits = clause.lits();
         make_room(&mut self.marks, lits)?;
-        self.database.inputs.push(lits, tag)
+        self.database.inputs.push(lits, tag)?;
+        Ok(())
     }
 
     /// Checks a step: true exactly where it is ok over the inputs and the steps that were added, with
