@@ -1,6 +1,6 @@
 -- A scan decides whether a clause is unit under the literals that hold.
 use Rattle.std.proofs.Common.{◌≡◌, ◌≢◌, ◌∙◌, ℕ, ◌+◌, ◌<◌, ◌≤◌, List, [], ◌∷◌, ◌++◌, length, get_or, set, Bool, true, false, refl, ap, subst, sym, inl, inr, arith}
-use Rattle.std.specs.Prelude.{IsTrue, Contains, ◌⊎◌, ◌↔◌}
+use Rattle.std.specs.Prelude.{IsTrue, Contains, ◌⊎◌, ◌↔◌, MatchBool}
 use Rattle.std.proofs.lemmas.Bool.{both_ways, cases_eq}
 use Rattle.std.proofs.lemmas.List.Elements.{Contains-push, Contains-push_cases, Contains-append_left}
 use Rattle.sat_base.specs.Lit.{opposite}
@@ -53,11 +53,6 @@ pub no_unit_held : (marks : List Mark) (lits clause : List ℕ) (lit : ℕ) → 
 no_unit_held marks lits clause lit is held agree z unit =
     unit.not_true (subst (Contains lits) (only_one marks lits clause lit z agree unit is.0 is.1) ((agree lit).0 held))
 
-pub held_unless_free : (mark : Mark) → (mark ≡ Free → ⊥) → IsTrue (is_held_mark mark)
-held_unless_free Free never = absurd (never refl)
-held_unless_free Held never = refl
-held_unless_free Uncovered never = refl
-
 pub is_unit : (marks : List Mark) (lits clause : List ℕ) (lit : ℕ) → IsFound marks clause (One lit) → holds marks lit ≡ false → Agree marks lits → IsUnit lits clause lit
 is_unit marks lits clause lit is free agree = record {
   stands = is.0;
@@ -65,3 +60,9 @@ is_unit marks lits clause lit is free agree = record {
   not_true = λ has. both_ways (holds marks lit) free ((agree lit).1 has);
   others_false = λ other has differs. (agree (opposite other)).0 (is.2 other has differs);
 }
+
+-- The one literal that isn't false was added, where it didn't hold: exactly then the clause is unit.
+pub unit_added : (before marks : List Mark) (lits lits' clause : List ℕ) (lit : ℕ) (b : Bool) → IsFound before clause (One lit) → Agree before lits → ((other : ℕ) → holds marks other ≡ holds before other)
+    → MatchBool b ((holds marks lit ≡ false) × (lits' ≡ lits ++ lit ∷ [])) (IsTrue (holds marks lit)) → MatchBool b ((z : ℕ) × IsUnit lits clause z × (lits' ≡ lits ++ z ∷ [])) ((z : ℕ) → IsUnit lits clause z → ⊥)
+unit_added before marks lits lits' clause lit true is agree same added = (lit, is_unit before lits clause lit is (sym (same lit) ∙ added.0) agree, added.1)
+unit_added before marks lits lits' clause lit false is agree same held = no_unit_held before lits clause lit is (sym (same lit) ∙ held) agree

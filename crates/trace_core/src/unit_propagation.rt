@@ -1,6 +1,6 @@
 //! Unit propagation over hints, on marks and the list of literals that hold.
 
-ghost use Rattle.std.specs.Prelude.{◌≡◌, ℕ, ◌↔◌, true, false, List, [], ◌∷◌, ◌++◌, length, map, Contains, IsTrue, IfOk, Ok, MatchBool};
+ghost use Rattle.std.specs.Prelude.{◌≡◌, ℕ, ◌<◌, ◌↔◌, true, false, List, [], ◌∷◌, ◌++◌, length, map, Contains, IsTrue, IfOk, Ok, MatchBool};
 ghost use Rattle.std.specs.List.{concat};
 ghost use Rattle.sat_base.specs.Lit.{opposite};
 ghost use Rattle.trace_core.specs.Propagation.{IsUnit, ReachesConflict, StandsInOneOf};
@@ -12,6 +12,23 @@ use crate::marks::{Found, Mark, scan};
 use sat_base::{Lit, Ref};
 use std::alloc::AllocError;
 
+// Adds a literal to those that hold. False where it holds already.
+fn add(marks: &mut [Mark], set: &mut Vec<Lit>, lit: Lit) -> Result<bool, AllocError>
+    requires within { lit < length marks.old }
+    requires agree { Agree marks.old set.old.items }
+    ensures agree { Agree marks.new set.new.items }
+    ensures added { IfOk result (λ added. MatchBool added ((holds marks.old lit ≡ false) × (set.new.items ≡ set.old.items ++ lit ∷ [])) (IsTrue (holds marks.old lit))) }
+    ensures uncovered { (other : ℕ) → is_uncovered marks.new other ≡ is_uncovered marks.old other }
+{
+    let code = lit.code() as usize;
+    let Mark::Free = marks[code] else {
+        return Ok(false);
+    };
+    set.push(lit)?;
+    marks[code] = Mark::Held;
+    Ok(true)
+}
+
 // Adds the literal of a unit hint to those that hold. False where the hint isn't unit.
 fn advance(marks: &mut [Mark], set: &mut Vec<Lit>, hint: &[Lit]) -> Result<bool, AllocError>
     requires room { HasRoom (length marks.old) hint.now }
@@ -20,16 +37,11 @@ fn advance(marks: &mut [Mark], set: &mut Vec<Lit>, hint: &[Lit]) -> Result<bool,
     ensures unit { IfOk result (λ added. MatchBool added ((lit : ℕ) × IsUnit set.old.items hint.now lit × (set.new.items ≡ set.old.items ++ lit ∷ [])) ((lit : ℕ) → ¬ IsUnit set.old.items hint.now lit)) }
     ensures covered { IfOk result (λ added. CoveredBy marks.old hint.now marks.new) }
 {
-    let Found::One(lit) = scan(marks, hint) else {
-        return Ok(false);
-    };
-    let code = lit.code() as usize;
-    let Mark::Free = marks[code] else {
-        return Ok(false);
-    };
-    set.push(lit)?;
-    marks[code] = Mark::Held;
-    Ok(true)
+    match scan(marks, hint) {
+        Found::One(lit) => add(marks, set, lit),
+        Found::Nothing => Ok(false),
+        Found::More => Ok(false),
+    }
 }
 
 // Goes through the hints in order: true exactly where they lead to a conflict.

@@ -1,29 +1,23 @@
-use Rattle.std.proofs.Common.{rules, ◌∙◌, sym, ap, get_or}
-use Rattle.trace_core.specs.Marking.{holds, is_held_mark}
-use Rattle.trace_core.specs.declared.marks.Mark.TheVariants.{Free}
-use Rattle.trace_core.proofs.UnitLemmas.{agree_kept, no_unit, no_unit_held, held_unless_free, is_unit}
+use Rattle.std.proofs.Common.{◌≡◌, ℕ, false, []}
+use Rattle.std.proofs.Common.{◌∷◌, ◌++◌}
+use Rattle.std.specs.Prelude.{IsTrue, MatchBool}
+use Rattle.std.proofs.lemmas.Result.{IfOk-weaker}
+use Rattle.trace_core.specs.Propagation.{IsUnit}
+use Rattle.trace_core.specs.Marking.{holds}
+use Rattle.trace_core.specs.declared.marks.Found.TheVariants.{Nothing, One, More}
+use Rattle.trace_core.proofs.UnitLemmas.{no_unit, unit_added}
 use Rattle.trace_core.proofs.unit_propagation.advance.Goals as goal
 
-pub returns-in_default : goal.returns-in_default
-returns-in_default c = record {
-  agree = agree_kept c.args.marks.now c.scan.new.marks c.args.set.now.items c.requires.agree c.scan.ensures.holding;
-  unit = no_unit c.args.marks.now c.args.set.now.items c.args.hint.now c.scan.result c.in_default.not-One c.scan.ensures.found c.requires.agree;
-  covered = c.scan.ensures.covered;
-}
+pub returns-in-One-clause-unit : goal.returns-in-One-clause-unit
+returns-in-One-clause-unit c =
+    IfOk-weaker c.add.result
+    (λ added. MatchBool added ((holds c.scan.new.marks c.in-One.lit ≡ false) × (c.add.new.set.items ≡ c.args.set.now.items ++ c.in-One.lit ∷ [])) (IsTrue (holds c.scan.new.marks c.in-One.lit)))
+    (λ added. MatchBool added ((lit : ℕ) × IsUnit c.args.set.now.items c.args.hint.now lit × (c.add.new.set.items ≡ c.args.set.now.items ++ lit ∷ [])) ((lit : ℕ) → IsUnit c.args.set.now.items c.args.hint.now lit → ⊥))
+    (λ added is. unit_added c.args.marks.now c.scan.new.marks c.args.set.now.items c.add.new.set.items c.args.hint.now c.in-One.lit added c.in-One.ensures.found c.requires.agree c.scan.ensures.holding is)
+    c.add.ensures.added
 
-pub returns-in_default-marks : goal.returns-in_default-marks
-returns-in_default-marks c = record {
-  agree = agree_kept c.args.marks.now c.scan.new.marks c.args.set.now.items c.requires.agree c.scan.ensures.holding;
-  unit = no_unit_held c.args.marks.now c.args.set.now.items c.args.hint.now c.in-One.lit c.in-One.ensures.found
-      (sym (c.scan.ensures.holding c.in-One.lit) ∙ ap (holds c.scan.new.marks) (sym c.code-code.ensures.value) ∙ held_unless_free (get_or c.scan.new.marks c.code-code.result Free) c.in_default-marks.not-Free)
-      c.requires.agree;
-  covered = c.scan.ensures.covered;
-}
+pub returns-in-Nothing-clause-unit : goal.returns-in-Nothing-clause-unit
+returns-in-Nothing-clause-unit c = no_unit c.args.marks.now c.args.set.now.items c.args.hint.now Nothing (λ lit same. cc) c.in-Nothing.ensures.found c.requires.agree
 
-pub returns-clause-unit : goal.returns-clause-unit
-returns-clause-unit c = (
-  c.in-One.lit,
-  is_unit c.args.marks.now c.args.set.now.items c.args.hint.now c.in-One.lit c.in-One.ensures.found
-      (sym (c.scan.ensures.holding c.in-One.lit) ∙ ap (holds c.scan.new.marks) (sym c.code-code.ensures.value) ∙ ap is_held_mark c.in-Free.is) c.requires.agree,
-  c.in_ok-push.ensures.items,
-)
+pub returns-in-More-clause-unit : goal.returns-in-More-clause-unit
+returns-in-More-clause-unit c = no_unit c.args.marks.now c.args.set.now.items c.args.hint.now More (λ lit same. cc) c.in-More.ensures.found c.requires.agree
