@@ -45,6 +45,7 @@ assumed_next seen marks lits lit lt state = record {
     before : (z : ℕ) → (z ≡ opposite lit → ⊥) → Contains seen (opposite z) ⊎ (lit ≡ opposite z) → Contains seen (opposite z)
     before z differs (inl h) = h
     before z differs (inr same) = absurd (differs (sym (opposite-opposite z) ∙ ap opposite (sym same)))
+
     by_literal : (z : ℕ) → (z ≡ opposite lit) ⊎ (z ≡ opposite lit → ⊥) → IsTrue (is_uncovered (set marks (opposite lit) Uncovered) z) ↔ Contains (seen ++ lit ∷ []) (opposite z)
     by_literal z (inl same) = (
       λ _. subst (Contains (seen ++ lit ∷ [])) (sym (opposite-opposite lit) ∙ ap opposite (sym same)) (Contains-push seen lit),
@@ -76,6 +77,7 @@ covered_next clause i marks lit code lt is at not_uncovered each z has =
     by_mark Free never = refl
     by_mark Held never = refl
     by_mark Uncovered never = absurd (never refl)
+
     either : Contains (take i clause) z ⊎ (lit ≡ z) → is_uncovered marks (opposite z) ≡ false
     either (inl before) = each z before
     either (inr same) = ap (λ k. is_uncovered marks k) (ap opposite (sym same) ∙ sym at) ∙ by_mark (get_or marks code Free) not_uncovered
@@ -113,6 +115,7 @@ covered_exactly clause clauses before after uncovered covered = (
   where
     was : (lit : ℕ) → Contains clause lit → IsTrue (is_uncovered before (opposite lit))
     was lit has = (uncovered (opposite lit)).1 (subst (Contains clause) (sym (opposite-opposite lit)) has)
+
     by_mark : (lit : ℕ) → StandsInOneOf clauses lit → (is_uncovered after (opposite lit) ≡ true) ⊎ (is_uncovered after (opposite lit) ≡ false) → is_uncovered after (opposite lit) ≡ false
     by_mark lit one (inr h) = h
     by_mark lit one (inl h) = absurd ((covered.still (opposite lit) h).1 (subst (Contains (concat clauses)) (sym (opposite-opposite lit)) (in_concat clauses one.0 lit one.1 one.2)))

@@ -32,9 +32,9 @@ pub clauses_pushed : (lits new lits' : List ℕ) (places places' : List Place) (
     → clauses_in lits' places' ≡ clauses_in lits places ++ record { clause = new; tag = tag } ∷ []
 clauses_pushed lits new lits' places places' place tag within grown added start len is_tag =
     let whole : clauses_in lits' places' ≡ clauses_in (lits ++ new) places ++ clause_at (lits ++ new) place ∷ [] =
-        ap (λ ls. clauses_in ls places') grown ∙ ap (clauses_in (lits ++ new)) added ∙ map_push (clause_at (lits ++ new)) places place in
+    ap (λ ls. clauses_in ls places') grown ∙ ap (clauses_in (lits ++ new)) added ∙ map_push (clause_at (lits ++ new)) places place in
     let clause : take place.len (drop place.start (lits ++ new)) ≡ new =
-        ap (take place.len) (drop_at lits new place.start (sym start)) ∙ take_all place.len new (omega arith) in
+    ap (take place.len) (drop_at lits new place.start (sym start)) ∙ take_all place.len new (omega arith) in
     let last : clause_at (lits ++ new) place ≡ record { clause = new; tag = tag } =
-        ap (λ (c : List ℕ). let k : Known = record { clause = c; tag = place.tag } in k) clause ∙ ap (λ (t : ℕ). let k : Known = record { clause = new; tag = t } in k) is_tag in
+    ap (λ (c : List ℕ). let k : Known = record { clause = c; tag = place.tag } in k) clause ∙ ap (λ (t : ℕ). let k : Known = record { clause = new; tag = t } in k) is_tag in
     whole ∙ ap (λ ks. ks ++ clause_at (lits ++ new) place ∷ []) (same_clauses lits new places within) ∙ ap (λ (k : Known). clauses_in lits places ++ k ∷ []) last

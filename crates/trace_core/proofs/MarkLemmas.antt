@@ -107,11 +107,13 @@ covered_shown before after shown lit is lt was = record {
     refuse : (z : ℕ) → (z ≡ opposite lit → ⊥) → (Contains shown (opposite z) → ⊥) → Contains shown (opposite z) ⊎ (lit ≡ opposite z) → ⊥
     refuse z differs never (inl has) = never has
     refuse z differs never (inr same) = differs (sym (opposite-opposite z) ∙ ap opposite (sym same))
+
     other_still : (z : ℕ) → IsTrue (is_uncovered (set after (opposite lit) Held) z) → (z ≡ opposite lit) ⊎ (z ≡ opposite lit → ⊥) → IsTrue (is_uncovered before z) × (Contains (shown ++ lit ∷ []) (opposite z) → ⊥)
     other_still z h (inl same) = absurd (both_ways (is_uncovered (set after (opposite lit) Held) z) (ap (is_uncovered (set after (opposite lit) Held)) same ∙ ap is_uncovered_mark (mark_written after (opposite lit) Held lt)) h)
     other_still z h (inr differs) =
         let old = is.still z (sym (ap is_uncovered_mark (mark_other after (opposite lit) z Held differs)) ∙ h) in
         (old.0, λ has. refuse z differs old.1 (Contains-push_cases shown lit (opposite z) has))
+
     here_or_old : (z : ℕ) → IsTrue (is_uncovered before z) → is_uncovered (set after (opposite lit) Held) z ≡ false → (z ≡ opposite lit) ⊎ (z ≡ opposite lit → ⊥) → Contains (shown ++ lit ∷ []) (opposite z)
     here_or_old z h k (inl same) = subst (Contains (shown ++ lit ∷ [])) (sym (opposite-opposite lit) ∙ ap opposite (sym same)) (Contains-push shown lit)
     here_or_old z h k (inr differs) =

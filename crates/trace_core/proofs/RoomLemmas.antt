@@ -32,15 +32,20 @@ holds_resized marks marks' size count counted fits is' lit = ap (λ (ms : List M
   where
     le : length marks ≤ size
     le = omega arith
+
     is : marks' ≡ take size marks ++ replicate (size - length marks) Free
     is = is' ∙ ap (λ n. take size marks ++ replicate (size - n) Free) counted
+
     new : List Mark
     new = replicate (size - length marks) Free
+
     whole : marks' ≡ marks ++ new
     whole = is ∙ ap (λ (ms : List Mark). ms ++ new) (take_all size marks le)
+
     free_here : (k : ℕ) → (k < size - length marks) ⊎ (size - length marks ≤ k) → get_or new k Free ≡ Free
     free_here k (inl lt) = get_or-replicate (size - length marks) k Free Free lt
     free_here k (inr ge) = get_or_past new k Free (subst (λ n. n ≤ k) (sym (length-replicate (size - length marks) Free)) ge)
+
     by_place : (lit < length marks) ⊎ (length marks ≤ lit) → get_or (marks ++ new) lit Free ≡ get_or marks lit Free
     by_place (inl lt) = get_or_append_left marks new Free lit lt
     by_place (inr ge) =

@@ -32,6 +32,7 @@ covered_both before middle after first second one two = record {
     neither : (lit : ℕ) → (Contains first (opposite lit) → ⊥) → (Contains second (opposite lit) → ⊥) → Contains first (opposite lit) ⊎ Contains second (opposite lit) → ⊥
     neither lit f s (inl h) = f h
     neither lit f s (inr h) = s h
+
     by_middle : (lit : ℕ) → IsTrue (is_uncovered before lit) → is_uncovered after lit ≡ false → (is_uncovered middle lit ≡ true) ⊎ (is_uncovered middle lit ≡ false) → Contains (first ++ second) (opposite lit)
     by_middle lit h k (inl m) = Contains-append_right first second (opposite lit) (two.covered lit m k)
     by_middle lit h k (inr m) = Contains-append_left first second (opposite lit) (one.covered lit h m)

@@ -14,6 +14,8 @@ mod laws;
 mod marks;
 mod room;
 mod step_check;
+#[cfg(test)]
+mod tests;
 mod unit_propagation;
 
 pub use checker::Checker;

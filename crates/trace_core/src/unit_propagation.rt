@@ -73,11 +73,7 @@ fn propagate(
 }
 
 // Lets the negation of each literal of the clause hold, none of which is covered yet.
-fn assume_false(
-    marks: &mut [Mark],
-    set: &mut Vec<Lit>,
-    clause: &[Lit],
-) -> Result<(), AllocError>
+fn assume_false(marks: &mut [Mark], set: &mut Vec<Lit>, clause: &[Lit]) -> Result<(), AllocError>
     requires room { HasRoom (length marks.old) clause.now }
     requires free { AreFree marks.old }
     requires empty { set.old.items ≡ [] }

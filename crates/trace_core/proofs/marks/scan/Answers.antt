@@ -11,13 +11,13 @@ loop-lit-init c = scanned_none c.args.marks.now
 pub loop-lit-preserved : goal.loop-lit-preserved
 loop-lit-preserved c =
     elim c.match-marks-code.branch [
-      in-Free w ↦ scanned_free c.args.marks.now c.loop-lit.marks c.match-marks-code.marks c.args.hint.now c.loop-lit.lit-index c.lit-item.result c.code-code.result c.loop-lit.found c.match-marks-code.found
+      | in-Free w ↦ scanned_free c.args.marks.now c.loop-lit.marks c.match-marks-code.marks c.args.hint.now c.loop-lit.lit-index c.lit-item.result c.code-code.result c.loop-lit.found c.match-marks-code.found
           c.loop-lit-test.true c.lit-item.is (search rules) w.in-Free.is w.marks-is
           (λ before seen is free. subst (IsFound before (seen ++ c.lit-item.result ∷ [])) (sym w.found-is) (w.with-found.ensures before seen is free))
           c.loop-lit.invariant
-    | in-Held w ↦ scanned_held c.args.marks.now c.loop-lit.marks c.match-marks-code.marks c.args.hint.now c.loop-lit.lit-index c.lit-item.result c.code-code.result c.loop-lit.found c.match-marks-code.found
+      | in-Held w ↦ scanned_held c.args.marks.now c.loop-lit.marks c.match-marks-code.marks c.args.hint.now c.loop-lit.lit-index c.lit-item.result c.code-code.result c.loop-lit.found c.match-marks-code.found
           c.loop-lit-test.true c.lit-item.is (search rules) w.in-Held.is w.marks-is w.found-is c.loop-lit.invariant
-    | in-Uncovered w ↦ scanned_shown c.args.marks.now c.loop-lit.marks c.match-marks-code.marks c.args.hint.now c.loop-lit.lit-index c.lit-item.result c.code-code.result c.loop-lit.found c.match-marks-code.found
+      | in-Uncovered w ↦ scanned_shown c.args.marks.now c.loop-lit.marks c.match-marks-code.marks c.args.hint.now c.loop-lit.lit-index c.lit-item.result c.code-code.result c.loop-lit.found c.match-marks-code.found
           c.loop-lit-test.true c.lit-item.is (search rules) w.in-Uncovered.is w.marks-is w.found-is c.loop-lit.invariant
     ]
 

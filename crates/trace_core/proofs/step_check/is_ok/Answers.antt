@@ -12,9 +12,10 @@ use Rattle.trace_core.proofs.StepLemmas.{hinted_room, ok_exactly}
 use Rattle.trace_core.proofs.step_check.is_ok.Goals as goal
 
 pub returns-then-tag-step-clause-exact : goal.returns-then-tag-step-clause-exact
-returns-then-tag-step-clause-exact c =
-    (λ h. absurd (false≢true h),
-    λ ok. absurd (c.if-tag-step.true (c.in-Some.ensures.tag ∙ ap (λ hints. greatest (map (λ hint. tag_of (known_to c.args.database.now.inputs c.args.database.now.steps hint)) hints)) c.items-hints.ensures ∙ sym ok.exact_tag)))
+returns-then-tag-step-clause-exact c = (
+  λ h. absurd (false≢true h),
+  λ ok. absurd (c.if-tag-step.true (c.in-Some.ensures.tag ∙ ap (λ hints. greatest (map (λ hint. tag_of (known_to c.args.database.now.inputs c.args.database.now.steps hint)) hints)) c.items-hints.ensures ∙ sym ok.exact_tag)),
+)
 
 pub derives-requires-clause-room : goal.derives-requires-clause-room
 derives-requires-clause-room c =

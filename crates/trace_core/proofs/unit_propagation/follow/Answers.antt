@@ -12,6 +12,6 @@ pub returns-clause-derived : goal.returns-clause-derived
 returns-clause-derived c =
     let clauses : List (List ℕ) = hinted c.args.database.now.inputs c.args.database.now.steps c.args.hints.now in
     let conflict : ReachesConflict (map opposite c.args.clause.now) clauses =
-        subst (λ lits. ReachesConflict lits clauses) c.in_ok-assume_false.ensures.set (c.in_ok-propagate.ensures.conflict.0 c.if-not-branch.false) in
+    subst (λ lits. ReachesConflict lits clauses) c.in_ok-assume_false.ensures.set (c.in_ok-propagate.ensures.conflict.0 c.if-not-branch.false) in
     let exact = covered_exactly c.args.clause.now clauses c.assume_false.new.marks c.propagate.new.marks c.in_ok-assume_false.ensures.uncovered (c.in_ok-propagate.ensures.covered c.if-not-branch.false) in
     (λ h. (exact.0 (c.is_covered.ensures.0 h), conflict), λ h. c.is_covered.ensures.1 (exact.1 h.0))

@@ -7,8 +7,8 @@ use Rattle.trace_core.proofs.block.KnownClauses.push.Goals as goal
 pub returns-in_err-push-clause-err : goal.returns-in_err-push-clause-err
 returns-in_err-push-clause-err c =
     let kept : clauses_in c.extend_from_slice.new.self.items c.push.new.self.items ≡ c.args.self.now =
-        clauses_kept c.self.inside.lits.items c.args.lits.now c.extend_from_slice.new.self.items c.self.inside.places.items c.push.new.self.items
-        c.self.invariant (search rules) (search rules) ∙ c.self.view_is in
+    clauses_kept c.self.inside.lits.items c.args.lits.now c.extend_from_slice.new.self.items c.self.inside.places.items c.push.new.self.items
+    c.self.invariant (search rules) (search rules) ∙ c.self.view_is in
     search (rules, kept)
 
 pub returns-clause-ok : goal.returns-clause-ok
