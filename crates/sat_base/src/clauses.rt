@@ -1,6 +1,10 @@
 //! Clauses.
 
-ghost use Rattle.std.specs.Prelude.{◌≡◌, ℕ, ◌↔◌, IfOk, Contains, IsTrue};
+ghost use Rattle.std.specs.Prelude.{◌≡◌, ℕ, nat_eq, ◌↔◌, IfOk, Contains, IsTrue};
+ghost use Rattle.std.specs.Cmp.Lexicographic.{pointwise};
+ghost use Rattle.std.specs.Cmp.Rules.{comparing};
+ghost use Rattle.std.proofs.Common.{rules};
+ghost use Rattle.std.proofs.lemmas.Cmp.{nat_list_eq_equiv};
 ghost use Rattle.sat_base.specs.Lit.{IsLitSet, IsTautology, is_ascending};
 ghost use Rattle.sat_base.specs.Truth.{clause_true};
 
@@ -68,6 +72,14 @@ impl Clause {
         self.lits.iter().any(|lit| lit.is_true(values))
     }
 
+    /// The literals back, in strictly ascending order. Takes no memory.
+    pub fn into_lits(self) -> Vec<Lit>
+        ensures value { result.items ≡ self }
+        ensures set { IsLitSet self }
+    {
+        self.lits
+    }
+
     /// An equal clause.
     pub fn copy(&self, alloc: Global) -> Result<Clause, AllocError>
         ensures { IfOk result (λ clause. clause ≡ self.now) }
@@ -76,4 +88,18 @@ impl Clause {
             lits: self.lits.to_vec(alloc)?,
         })
     }
+}
+
+impl PartialEq for Clause {
+    ghost eq = { pointwise nat_eq };
+
+    ghost laws = { Prim.search (comparing, nat_list_eq_equiv, rules) };
+
+    fn eq(&self, other: &Clause) -> bool {
+        self.lits == other.lits
+    }
+}
+
+impl Eq for Clause {
+    ghost laws = { nat_list_eq_equiv };
 }

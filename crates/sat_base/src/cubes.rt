@@ -1,6 +1,10 @@
 //! Cubes.
 
-ghost use Rattle.std.specs.Prelude.{◌≡◌, ℕ, ◌↔◌, IfOk, Contains, IsTrue};
+ghost use Rattle.std.specs.Prelude.{◌≡◌, ℕ, nat_eq, ◌↔◌, IfOk, Contains, IsTrue};
+ghost use Rattle.std.specs.Cmp.Lexicographic.{pointwise};
+ghost use Rattle.std.specs.Cmp.Rules.{comparing};
+ghost use Rattle.std.proofs.Common.{rules};
+ghost use Rattle.std.proofs.lemmas.Cmp.{nat_list_eq_equiv};
 ghost use Rattle.sat_base.specs.Lit.{IsLitSet, opposite, is_ascending};
 ghost use Rattle.sat_base.specs.Truth.{cube_true};
 
@@ -69,6 +73,14 @@ impl Cube {
         Clause::from_lits(alloc, &lits)
     }
 
+    /// The literals back, in strictly ascending order. Takes no memory.
+    pub fn into_lits(self) -> Vec<Lit>
+        ensures value { result.items ≡ self }
+        ensures set { IsLitSet self }
+    {
+        self.lits
+    }
+
     /// An equal cube.
     pub fn copy(&self, alloc: Global) -> Result<Cube, AllocError>
         ensures { IfOk result (λ cube. cube ≡ self.now) }
@@ -77,4 +89,18 @@ impl Cube {
             lits: self.lits.to_vec(alloc)?,
         })
     }
+}
+
+impl PartialEq for Cube {
+    ghost eq = { pointwise nat_eq };
+
+    ghost laws = { Prim.search (comparing, nat_list_eq_equiv, rules) };
+
+    fn eq(&self, other: &Cube) -> bool {
+        self.lits == other.lits
+    }
+}
+
+impl Eq for Cube {
+    ghost laws = { nat_list_eq_equiv };
 }
