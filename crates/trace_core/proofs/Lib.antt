@@ -1,0 +1,10 @@
+pub mod Soundness
+pub mod BlockLemmas
+pub mod MarkLemmas
+pub mod TagLemmas
+pub mod RunLemmas
+pub mod UnitLemmas
+pub mod AssumeLemmas
+pub mod RoomLemmas
+pub mod StepLemmas
+pub mod ReadyLemmas
