@@ -1,3 +1,6 @@
 pub mod EachThen
 pub mod Numbers
+pub mod SortedSets
 pub mod PlainText
+pub mod Truth
+pub mod Runs
