@@ -2,6 +2,8 @@
 use Rattle.std.proofs.Common.{◌≡◌, ◌∙◌, ℕ, ◌+◌, ◌<◌, List, [], ◌∷◌, ◌++◌, length, take, get_or, refl, ap, sym, subst, append_assoc, append-nil}
 use Rattle.std.specs.Prelude.{true, false}
 use Rattle.icnf_text.specs.Judgement.{statements, wrong}
+use Rattle.icnf_text.proofs.Tokens.{extended_is}
+use Rattle.icnf_text.proofs.Lines.{piece}
 use Rattle.icnf_text.specs.Machine.{State, Step, quiet, start, read_bytes, finished}
 
 abbrev pub run : List ℕ → Step
