@@ -4,5 +4,10 @@ pub mod SortedSets
 pub mod PlainText
 pub mod Tokens
 pub mod Lines
+pub mod TokenKinds
+pub mod LinePlaces
+pub mod Grammar
+pub mod StatementStates
+pub mod HeaderStates
 pub mod Truth
 pub mod Runs

@@ -103,7 +103,7 @@ filter-append p (x ∷ xs) ys = by (p x) x (filter p (xs ++ ys)) (filter p xs) (
 words_are : (line : List ℕ) → words_of line ≡ ended line ++ worded (piece line)
 words_are line = ap (filter is_word) (split_parts is_blank line) ∙ filter-append is_word (front_parts is_blank line) (piece line ∷ [])
 
-length_push : {X : Type 0} (xs : List X) (x : X) → length (xs ++ x ∷ []) ≡ length xs + 1
+pub length_push : {X : Type 0} (xs : List X) (x : X) → length (xs ++ x ∷ []) ≡ length xs + 1
 length_push [] x = refl
 length_push (y ∷ ys) x = let h = length_push ys x in omega arith
 
@@ -120,10 +120,10 @@ ended_are line =
     ∙ ap (filter is_word) (take_front (front_parts is_blank line) (piece line))
 
 -- with a blank, and with another byte
-ended-blank : (line : List ℕ) (b : ℕ) → is_blank b ≡ true → ended (line ++ b ∷ []) ≡ ended line ++ worded (piece line)
+pub ended-blank : (line : List ℕ) (b : ℕ) → is_blank b ≡ true → ended (line ++ b ∷ []) ≡ ended line ++ worded (piece line)
 ended-blank line b h = ap (filter is_word) (front_parts-at is_blank line b h) ∙ filter-append is_word (front_parts is_blank line) (piece line ∷ [])
 
-ended-more : (line : List ℕ) (b : ℕ) → is_blank b ≡ false → ended (line ++ b ∷ []) ≡ ended line
+pub ended-more : (line : List ℕ) (b : ℕ) → is_blank b ≡ false → ended (line ++ b ∷ []) ≡ ended line
 ended-more line b h = ap (filter is_word) (front_parts-more is_blank line b h)
 
 words-blank : (line : List ℕ) (b : ℕ) → is_blank b ≡ true → words_of (line ++ b ∷ []) ≡ words_of line
@@ -132,7 +132,7 @@ words-blank line b h =
     ∙ ap (λ (r : List ℕ). (ended line ++ worded (piece line)) ++ worded r) (last_part-at is_blank line b h)
     ∙ append-nil (ended line ++ worded (piece line)) ∙ sym (words_are line)
 
-worded-some : (bytes : List ℕ) → 0 < length bytes → worded bytes ≡ bytes ∷ []
+pub worded-some : (bytes : List ℕ) → 0 < length bytes → worded bytes ≡ bytes ∷ []
 worded-some [] some = absurd (omega arith)
 worded-some (x ∷ xs) some = rw (lt_true (length (x ∷ xs)) some) refl
   where

@@ -57,7 +57,7 @@ is_front-push [] ys b = refl
 is_front-push (x ∷ xs) [] b = refl
 is_front-push (x ∷ xs) (y ∷ ys) b = ap (λ r. (x == y) && r) (is_front-push xs ys b) ∙ sym (and_assoc (x == y) (is_front xs ys) (is_front (b ∷ []) (drop (length xs) ys)))
 
-front_whole : (xs ys : List ℕ) → is_front xs ys ≡ true → length xs ≡ length ys → xs ≡ ys
+pub front_whole : (xs ys : List ℕ) → is_front xs ys ≡ true → length xs ≡ length ys → xs ≡ ys
 front_whole [] [] h len = refl
 front_whole [] (y ∷ ys) h len = absurd (omega arith)
 front_whole (x ∷ xs) [] h len = absurd (omega arith)
@@ -122,7 +122,7 @@ variable_of-push : (xs : List ℕ) (b : ℕ) → 0 < length xs → variable_of (
 variable_of-push xs b some = ap (digits_value 10) (digits_of-push xs b some) ∙ digits_value_push 10 (digits_of xs) b
 
 -- what begins as `inccnf` does is no number
-front_not_literal : (xs : List ℕ) → 0 < length xs → is_front xs inccnf ≡ true → is_literal xs ≡ false
+pub front_not_literal : (xs : List ℕ) → 0 < length xs → is_front xs inccnf ≡ true → is_literal xs ≡ false
 front_not_literal [] some front = absurd (omega arith)
 front_not_literal (x ∷ xs) some front =
     let is : x ≡ 105 = eq_true x 105 (and_parts _ _ front).0 in

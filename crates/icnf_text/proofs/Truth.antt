@@ -4,6 +4,11 @@ use Rattle.std.specs.Prelude.{true, false}
 use Rattle.icnf_text.specs.Judgement.{statements, wrong}
 use Rattle.icnf_text.proofs.Tokens.{extended_is}
 use Rattle.icnf_text.proofs.Lines.{piece}
+use Rattle.icnf_text.proofs.TokenKinds.{IsOther}
+use Rattle.icnf_text.proofs.LinePlaces.{IsPlace}
+use Rattle.icnf_text.proofs.Grammar.{right_all}
+use Rattle.icnf_text.proofs.StatementStates.{Holds}
+use Rattle.icnf_text.proofs.HeaderStates.{Knows}
 use Rattle.icnf_text.specs.Machine.{State, Step, quiet, start, read_bytes, finished}
 
 abbrev pub run : List ℕ → Step

@@ -11,19 +11,18 @@ use Rattle.icnf_text.specs.declared.faults.Fault.{Fault}
 use Rattle.icnf_text.specs.Layout.{Token, tokens_of, line_behind, last_line}
 use Rattle.icnf_text.specs.Number.{is_zero, is_mark, is_literal, is_variable, variable_of, code_of}
 
--- the tokens of each statement, its `0` with them; what stands behind the last `0` belongs to none
-abbrev pub onto_first : Token → List (List Token) → List (List Token)
-onto_first token [] = []
-onto_first token (group ∷ groups) = (token ∷ group) ∷ groups
-
-abbrev pub groups_of : List Token → List (List Token)
-groups_of [] = []
-groups_of (token ∷ tokens) = if is_zero token.bytes then (token ∷ []) ∷ groups_of tokens else onto_first token (groups_of tokens)
+-- The tokens of each statement, its `0` with them, where these tokens stand before; what stands behind the last `0` belongs to none.
+abbrev pub groups_after : List Token → List Token → List (List Token)
+groups_after before [] = []
+groups_after before (token ∷ tokens) = if is_zero token.bytes then (before ++ token ∷ []) ∷ groups_after [] tokens else groups_after (before ++ token ∷ []) tokens
 
 -- the tokens behind the last `0`: those of a statement that has no `0` yet
 abbrev pub open_after : List Token → List Token → List Token
 open_after before [] = before
 open_after before (token ∷ tokens) = if is_zero token.bytes then open_after [] tokens else open_after (before ++ token ∷ []) tokens
+
+abbrev pub groups_of : List Token → List (List Token)
+groups_of tokens = groups_after [] tokens
 
 abbrev pub open_of : List Token → List Token
 open_of tokens = open_after [] tokens
