@@ -1,25 +1,27 @@
 -- What a reader knows of all tokens, with one more token and with one more line.
 use Rattle.std.proofs.Common.{◌≡◌, ◌∙◌, ℕ, ◌+◌, ◌<◌, ◌≤◌, List, [], ◌∷◌, ◌++◌, length, Bool, true, false, cond, refl, ap, sym, subst, arith, append-nil, inl, inr}
-use Rattle.std.specs.Prelude.{◌⊎◌, ◌&&◌, ◌==◌, not, nat_lt, Option, Some, None, filter, codes}
+use Rattle.std.specs.Prelude.{◌⊎◌, ◌&&◌, ◌==◌, not, nat_lt, nat_le, Option, Some, None, filter, codes}
 use Rattle.std.specs.Option.{option_or}
 use Rattle.std.specs.Str.{bytes_eq}
-use Rattle.std.proofs.lemmas.Bool.{and_from, lt-ltb}
+use Rattle.std.proofs.lemmas.Bool.{and_from, lt-ltb, ltb-true}
 use Rattle.std.proofs.lemmas.Bool.Decides.{nat_tests}
 use Rattle.icnf_text.specs.declared.statements.Numbered.{Numbered}
 use Rattle.icnf_text.specs.declared.faults.Reason.{Reason}
 use Rattle.icnf_text.specs.declared.faults.Reason.TheVariants as reason
 use Rattle.icnf_text.specs.declared.faults.Fault.{Fault}
 use Rattle.icnf_text.specs.declared.words.Word.{Word}
+use Rattle.icnf_text.specs.declared.words.Word.TheVariants as word
+use Rattle.icnf_text.specs.declared.parser.Open.{Open}
 use Rattle.icnf_text.specs.declared.parser.Phase.{Phase}
 use Rattle.icnf_text.specs.declared.parser.Phase.TheVariants as phase
 use Rattle.icnf_text.specs.declared.parser.Open.TheVariants as open_as
 use Rattle.icnf_text.specs.Layout.{Token}
-use Rattle.icnf_text.specs.Judgement.{Header, Missing, Broken, Found, is_behind, header_of, statements_under, wrong_under, right_after, wrong_after, reason_of, fault_on, statements_of, open_of}
-use Rattle.icnf_text.specs.Machine.{Parse, Taken, goes_on, stops, is_p, is_inccnf, word_at, token_taken, line_at, start}
+use Rattle.icnf_text.specs.Judgement.{Header, Missing, Broken, Found, is_behind, header_of, statements_under, wrong_under, right_after, wrong_after, reason_of, fault_on, statements_of, open_of, wrong_end}
+use Rattle.icnf_text.specs.Machine.{Parse, Taken, goes_on, stops, begun, begun_at, mark_at, closed_unless, pushed_unless, literal_taken, lit_code, is_open, end_at, is_p, is_inccnf, word_at, token_taken, line_at, start}
 use Rattle.icnf_text.proofs.Tokens.{IsWord}
 use Rattle.icnf_text.proofs.TokenKinds.{is_p-is, is_inccnf-is}
-use Rattle.icnf_text.proofs.Grammar.{filter-push, right_all, right_stops, wrong_after-push}
-use Rattle.icnf_text.proofs.StatementStates.{Holds, Takes, token_takes}
+use Rattle.icnf_text.proofs.Grammar.{filter-push, right_all, right_stops, right_stays, wrong_stays, wrong_after-push}
+use Rattle.icnf_text.proofs.StatementStates.{Holds, IsOpen, Takes, token_takes}
 
 abbrev is_header : Token → Token → Bool
 is_header first second = bytes_eq first.bytes (codes "p") && first.line == second.line && bytes_eq second.bytes (codes "inccnf")
@@ -175,9 +177,42 @@ body_takes parse taken n line body tokens t out e at_line behind header holds ta
           );
     }
 
--- the phase after a token of the statements
+-- a token of the statements keeps the phase
+stop_or_go : (b : Bool) (parse next : Parse) (r : Reason) → next.phase ≡ parse.phase → (cond b (stops parse r) (goes_on next)).parse.phase ≡ parse.phase
+stop_or_go true parse next r is = refl
+stop_or_go false parse next r is = is
+
+begun_phase : (o : Open) (parse : Parse) (line : ℕ) → (begun_at o parse line).parse.phase ≡ parse.phase
+begun_phase open_as.Nothing parse line = stop_or_go (nat_le 16777216 parse.clauses) parse (record parse { opened = open_as.Clause; start = line; clauses = parse.clauses + 1 }) reason.TooMany refl
+begun_phase open_as.Clause parse line = refl
+begun_phase open_as.Cube parse line = refl
+
+mark_phase : (o : Open) (parse : Parse) (line : ℕ) → (mark_at o parse line).parse.phase ≡ parse.phase
+mark_phase open_as.Nothing parse line = stop_or_go (nat_le 1048576 parse.cubes) parse (record parse { opened = open_as.Cube; start = line; cubes = parse.cubes + 1 }) reason.TooMany refl
+mark_phase open_as.Clause parse line = refl
+mark_phase open_as.Cube parse line = refl
+
+closed_phase : (why : Option Reason) (parse : Parse) → (closed_unless why parse).parse.phase ≡ parse.phase
+closed_phase None parse = refl
+closed_phase (Some r) parse = refl
+
+pushed_phase : (why : Option Reason) (parse : Parse) (code : ℕ) → (pushed_unless why parse code).parse.phase ≡ parse.phase
+pushed_phase None parse code = stop_or_go (nat_le 33554432 parse.literals) parse (record parse { lits = parse.lits ++ code ∷ []; literals = parse.literals + 1 }) reason.TooMany refl
+pushed_phase (Some r) parse code = refl
+
+literal_phase : (o : Option ℕ) (parse : Parse) (line : ℕ) → (literal_taken o parse line).parse.phase ≡ parse.phase
+literal_phase None parse line = refl
+literal_phase (Some code) parse line = pushed_phase (begun parse line).reason (begun parse line).parse code ∙ begun_phase parse.opened parse line
+
 phase_stays : (parse : Parse) (line : ℕ) (w : Word) → (token_taken parse line w).parse.phase ≡ parse.phase
-phase_stays parse line w = ?
+phase_stays parse line word.Nothing = refl
+phase_stays parse line word.Zero = closed_phase (begun parse line).reason (begun parse line).parse ∙ begun_phase parse.opened parse line
+phase_stays parse line word.Minus = refl
+phase_stays parse line word.Mark = mark_phase parse.opened parse line
+phase_stays parse line (word.Number negative v) = literal_phase (lit_code negative v) parse line
+phase_stays parse line word.P = refl
+phase_stays parse line (word.Inccnf count) = refl
+phase_stays parse line word.Strange = refl
 
 -- a word that has ended on this line
 pub word_comes : (parse : Parse) (n : ℕ) (tokens : List Token) (out : List Numbered) (w : Word) (bytes : List ℕ) → IsWord w bytes → 0 < length bytes → Knows parse n tokens out →
@@ -229,3 +264,84 @@ line_comes parse n tokens out h = by parse.phase refl h.at
 -- no token yet
 pub knows_nothing : Knows start.parse 1 [] []
 knows_nothing = record { at = (refl, record { right = refl; opened = (refl, refl); clauses = refl; cubes = refl; literals = refl; given = refl }) }
+
+pub line_given : (p : Phase) (parse : Parse) → (line_at p parse).given ≡ []
+line_given phase.Nothing parse = refl
+line_given phase.AfterP parse = refl
+line_given phase.Rest parse = refl
+line_given phase.Body parse = refl
+
+-- the end of the text
+open_ends : (o : Open) (parse : Parse) (line : ℕ) (tokens : List Token) → IsOpen o parse.start parse.lits (open_of tokens) → fault_on line (is_open o) ≡ wrong_end line (Found tokens)
+open_ends open_as.Nothing parse line tokens at = ap (λ (t : List Token). cond (length t == 0) None (Some (record { line = line; reason = reason.Unfinished }))) (sym at.0)
+open_ends open_as.Clause parse line tokens at = some_ends line (length (open_of tokens)) at.0
+  where
+    some_ends : (line n : ℕ) → 0 < n → ◌≡◌ {A = Option Fault} (Some (record { line = line; reason = reason.Unfinished })) (cond (n == 0) None (Some (record { line = line; reason = reason.Unfinished })))
+    some_ends line n some = let no : (n == 0) ≡ false = grind (arith, nat_tests) in rw no refl
+open_ends open_as.Cube parse line tokens at = some_ends line (length (open_of tokens)) at.0
+  where
+    some_ends : (line n : ℕ) → 0 < n → ◌≡◌ {A = Option Fault} (Some (record { line = line; reason = reason.Unfinished })) (cond (n == 0) None (Some (record { line = line; reason = reason.Unfinished })))
+    some_ends line n some = let no : (n == 0) ≡ false = grind (arith, nat_tests) in rw no refl
+
+pub end_is : (parse : Parse) (n line : ℕ) (tokens : List Token) (out : List Numbered) → Knows parse n tokens out → fault_on line (end_at parse.phase parse) ≡ wrong_end line (header_of n tokens)
+end_is parse n line tokens out h = by parse.phase h.at
+  where
+    after_p : (first : Token) → bytes_eq first.bytes (codes "p") ≡ true → first.line ≡ n → header_of n (first ∷ []) ≡ Missing
+    after_p first is at = ap (λ b. cond b Missing (Broken first.line)) (and_from _ _ is (ap not (same_line first.line n at)))
+    by : (p : Phase) → IsPhase p parse n tokens out → fault_on line (end_at p parse) ≡ wrong_end line (header_of n tokens)
+    by phase.Nothing at = ap (wrong_end line) (sym (ap (header_of n) at.0))
+    by phase.AfterP at = ap (wrong_end line) (sym (ap (header_of n) at.whole ∙ after_p at.first at.is at.line_is))
+    by phase.Rest at = ap (wrong_end line) (sym (header_found n tokens n [] at.header))
+    by phase.Body at = open_ends parse.opened parse line at.body at.holds.opened ∙ ap (wrong_end line) (sym (header_found n tokens at.line at.body at.header))
+
+-- A first wrong token stays the first one, whatever stands behind it on its line and on later lines.
+abbrev Stays : Header → Header → Fault → Type 0
+Stays header next f = (wrong_under next ≡ Some f) × (statements_under next ≡ statements_under header)
+
+lt_through : (a n m : ℕ) → nat_lt a n ≡ true → n ≤ m → nat_lt a m ≡ true
+lt_through a n m h le = lt-ltb a m (let k = ltb-true a n h in omega arith)
+
+one_stays : (p behind : Bool) (n m : ℕ) (t : Token) (more : List Token) (f : Fault) → bytes_eq t.bytes (codes "p") ≡ p → nat_lt t.line n ≡ behind → n ≤ m → ((u : Token) (us : List Token) → more ≡ u ∷ us → u.line ≡ n) →
+    wrong_under (cond (p && not behind) Missing (Broken t.line)) ≡ Some f → Stays (cond (p && not behind) Missing (Broken t.line)) (header_of m (t ∷ more)) f
+one_stays true true n m t [] f h k le on is = (ap wrong_under broken_too ∙ is, ap statements_under broken_too)
+  where
+    broken_too : header_of m (t ∷ []) ≡ Broken t.line
+    broken_too = rw (h, lt_through t.line n m k le) refl
+one_stays true true n m t (u ∷ us) f h k le on is = (ap wrong_under broken_too ∙ is, ap statements_under broken_too)
+  where
+    apart : (a b : ℕ) → a < b → (a == b) ≡ false
+    apart a b lt = grind (arith, nat_tests)
+    broken_too : header_of m (t ∷ u ∷ us) ≡ Broken t.line
+    broken_too = rw (h, apart t.line u.line (let low = ltb-true t.line n k in let at = on u us refl in omega arith)) refl
+one_stays true false n m t more f h k le on is = cc
+one_stays false behind n m t [] f h k le on is = (ap wrong_under broken_too ∙ is, ap statements_under broken_too)
+  where
+    broken_too : header_of m (t ∷ []) ≡ Broken t.line
+    broken_too = rw h refl
+one_stays false behind n m t (u ∷ us) f h k le on is = (ap wrong_under broken_too ∙ is, ap statements_under broken_too)
+  where
+    broken_too : header_of m (t ∷ u ∷ us) ≡ Broken t.line
+    broken_too = rw h refl
+
+filter_more : (p : Token → Bool) (xs ys : List Token) → filter p (xs ++ ys) ≡ filter p xs ++ filter p ys
+filter_more p [] ys = refl
+filter_more p (x ∷ xs) ys = by (p x) _ _ _ (filter_more p xs ys)
+  where
+    by : (b : Bool) (all left right : List Token) → all ≡ left ++ right → cond b (x ∷ all) all ≡ cond b (x ∷ left) left ++ right
+    by true all left right h = ap (λ (r : List Token). x ∷ r) h
+    by false all left right h = h
+
+two_stays : (b : Bool) (t u : Token) (us more : List Token) (f : Fault) → is_header t u ≡ b → wrong_under (cond b (Found (filter (is_behind t.line) us)) (Broken t.line)) ≡ Some f →
+    Stays (cond b (Found (filter (is_behind t.line) us)) (Broken t.line)) (cond b (Found (filter (is_behind t.line) (us ++ more))) (Broken t.line)) f
+two_stays true t u us more f h is =
+    let same = filter_more (is_behind t.line) us more in (
+      ap (wrong_after []) same ∙ wrong_stays [] (filter (is_behind t.line) us) (filter (is_behind t.line) more) f is,
+      ap (λ (r : List Token). statements_of (right_after [] r)) same ∙ ap statements_of (right_stays [] (filter (is_behind t.line) us) (filter (is_behind t.line) more) f is),
+    )
+two_stays false t u us more f h is = (is, refl)
+
+pub header_stays : (n m : ℕ) (tokens more : List Token) (f : Fault) → n ≤ m → ((u : Token) (us : List Token) → more ≡ u ∷ us → u.line ≡ n) → wrong_under (header_of n tokens) ≡ Some f →
+    (wrong_under (header_of m (tokens ++ more)) ≡ Some f) × (statements_under (header_of m (tokens ++ more)) ≡ statements_under (header_of n tokens))
+header_stays n m [] more f le on is = cc
+header_stays n m (t ∷ []) more f le on is = one_stays (bytes_eq t.bytes (codes "p")) (nat_lt t.line n) n m t more f refl refl le on is
+header_stays n m (t ∷ u ∷ us) more f le on is = two_stays (is_header t u) t u us more f refl is
