@@ -97,6 +97,21 @@ long_before text f h = by (wrong_under (header text false)) (is_too_long text) h
     by None false h = cc
     by (Some x) c h = h
 
+-- the end of such a text ends no token
+long_end : (text : List ℕ) → is_too_long text ≡ true → wrong text true ≡ wrong text false
+unfolding wrong
+long_end text h = by (is_too_long text) h
+  where
+    by : (c : Bool) → c ≡ true →
+        option_or (wrong_under (header_of (line_behind (within text)) (tokens_of (within text) (true && not c)))) (cond c (Some (record { line = line_behind (within text); reason = reason.TooLong })) (wrong_end (last_line text) (header_of (line_behind (within text)) (tokens_of (within text) (true && not c)))))
+        ≡ option_or (wrong_under (header text false)) (cond c (Some (record { line = line_behind (within text); reason = reason.TooLong })) None)
+    by true h = refl
+    by false h = cc
+
+long_statements_end : (text : List ℕ) → is_too_long text ≡ true → statements text true ≡ statements text false
+unfolding statements
+long_statements_end text h = ap (λ c. statements_under (header_of (line_behind (within text)) (tokens_of (within text) (true && not c)))) h
+
 -- the line on which the next byte stands
 line_feed_line : (text : List ℕ) (b : ℕ) (feed : Bool) → is_line_feed b ≡ feed → line_behind (text ++ b ∷ []) ≡ line_behind text + cond feed 1 0
 line_feed_line text b feed h = let k = count_by-push is_line_feed text b ∙ ap (λ c. count_by is_line_feed text + cond c 1 0) h in omega arith
@@ -312,7 +327,49 @@ after_more text b s out more none is knows no_feed no_blank =
     plus_zero k = omega arith
 
 after_feed : (text : List ℕ) (b : ℕ) (s : State) (e : Step) (out : List Numbered) → Longer text b s out → Ended text s e out → is_line_feed b ≡ true → After (text ++ b ∷ []) out (record e { state = line_ended_unless e.state.fault e.state })
-after_feed text b s e out more end feed = ?
+after_feed text b s e out more end feed = by (some_or_none e.state.fault)
+  where
+    tokens : tokens_of (text ++ b ∷ []) false ≡ with_here text
+    tokens = tokens_of-line_feed text b feed
+    line : line_behind (text ++ b ∷ []) ≡ s.line + 1
+    line = line_feed_line text b true feed ∙ ap (λ n. n + 1) (sym more.line)
+    headers : header_of (line_behind (text ++ b ∷ [])) (tokens_of (text ++ b ∷ []) false) ≡ header_of (s.line + 1) (with_here text)
+    headers = ap (λ n. header_of n (tokens_of (text ++ b ∷ []) false)) line ∙ ap (header_of (s.line + 1)) tokens
+    stopped : (t : State) (f : Fault) → t.fault ≡ Some f → wrong_under (header_of (s.line + 1) (with_here text)) ≡ Some f → out ++ e.given ≡ statements_under (header_of (s.line + 1) (with_here text)) → IsStopped (text ++ b ∷ []) t (out ++ e.given)
+    stopped t f is under given = record {
+        fault = f;
+        is = is;
+        wrong_is = short_wrong (text ++ b ∷ []) more.short ∙ ap wrong_under headers ∙ under;
+        given = given ∙ sym (ap statements_under headers) ∙ sym (short_statements (text ++ b ∷ []) false more.short);
+      }
+    later : (f : Fault) → wrong_under (header_of s.line (with_here text)) ≡ Some f → (wrong_under (header_of (s.line + 1) (with_here text)) ≡ Some f) × (statements_under (header_of (s.line + 1) (with_here text)) ≡ statements_under (header_of s.line (with_here text)))
+    later f h = subst (λ (ts : List Token). (wrong_under (header_of (s.line + 1) ts) ≡ Some f) × (statements_under (header_of (s.line + 1) ts) ≡ statements_under (header_of s.line (with_here text)))) (append-nil (with_here text))
+        (header_stays s.line (s.line + 1) (with_here text) [] f (omega arith) (λ u us q. cc) h)
+    given_is : (taken : Taken) → taken.given ≡ [] → (out ++ e.given) ++ taken.given ≡ out ++ e.given
+    given_is taken none = ap (λ (g : List Numbered). (out ++ e.given) ++ g) none ∙ append-nil (out ++ e.given)
+    lined : (taken : Taken) (why : Option Reason) → taken.reason ≡ why → taken.given ≡ [] → Comes taken s.line (s.line + 1) (with_here text) (out ++ e.given) →
+        After (text ++ b ∷ []) out (record e { state = record e.state { parse = taken.parse; place = place.Start; line = e.state.line + 1; fault = fault_on e.state.line taken.reason } })
+    lined taken None is none comes = inl (record {
+        fault = ap (fault_on e.state.line) is;
+        bytes = end.bytes ∙ more.bytes;
+        short = more.short;
+        line = ap (λ n. n + 1) end.line ∙ sym line;
+        place = (last_part-at is_line_feed text b feed, end.word_is);
+        knows = subst (λ n. Knows taken.parse n (tokens_of (text ++ b ∷ []) false) (out ++ e.given)) (ap (λ n. n + 1) (sym end.line))
+            (subst (λ (ts : List Token). Knows taken.parse (s.line + 1) ts (out ++ e.given)) (sym tokens) (subst (Knows taken.parse (s.line + 1) (with_here text)) (given_is taken none) (comes.goes is)));
+      })
+    lined taken (Some r) is none comes =
+        let stays = comes.stays r is in
+        inr (stopped (record e.state { parse = taken.parse; place = place.Start; line = e.state.line + 1; fault = fault_on e.state.line taken.reason }) (record { line = s.line; reason = r })
+        (ap (fault_on e.state.line) is ∙ ap (λ n. Some (record { line = n; reason = r })) end.line) stays.0 (sym (given_is taken none) ∙ stays.1))
+    by : (e.state.fault ≡ None) ⊎ ((f : Fault) × (e.state.fault ≡ Some f)) → After (text ++ b ∷ []) out (record e { state = line_ended_unless e.state.fault e.state })
+    by (inl none) =
+        subst (λ (o : Option Fault). After (text ++ b ∷ []) out (record e { state = line_ended_unless o e.state })) (sym none)
+        (lined (line_at e.state.parse.phase e.state.parse) (line_at e.state.parse.phase e.state.parse).reason refl (line_given e.state.parse.phase e.state.parse) (line_comes e.state.parse s.line (with_here text) (out ++ e.given) (end.goes none)))
+    by (inr some) =
+        let stops = end.stops some.0 some.1 in let now = later some.0 stops.0 in
+        subst (λ (o : Option Fault). After (text ++ b ∷ []) out (record e { state = line_ended_unless o e.state })) (sym some.1)
+        (inr (stopped e.state some.0 some.1 now.0 (stops.1 ∙ sym now.1)))
 
 byte_at : (text : List ℕ) (step : Step) (b : ℕ) → IsAt text step → IsAt (text ++ b ∷ []) (and_then step b)
 byte_at text step b (inl r) = subst (After (text ++ b ∷ []) step.given) (sym (next_byte step.state b r.fault)) (by (nat_le 4294967296 step.state.bytes) refl)
@@ -351,7 +408,8 @@ is_at text = subst (λ (t : List ℕ). IsAt t (run t)) (take_all (length text) t
     front : (i : ℕ) → i ≤ length text → IsAt (take i text) (run (take i text))
     front zero h = inl (record { fault = refl; bytes = refl; short = omega arith; line = refl; place = (refl, refl); knows = knows_nothing })
     front (suc i) h =
-        let more : take (suc i) text ≡ take i text ++ get_or text i 0 ∷ [] = ap (λ k. take k text) (omega arith) ∙ take_more text i 0 (omega arith) in
+        let next : suc i ≡ i + 1 = omega arith in
+        let more : take (suc i) text ≡ take i text ++ get_or text i 0 ∷ [] = ap (λ k. take k text) next ∙ take_more text i 0 (omega arith) in
         subst (λ (t : List ℕ). IsAt t (run t)) (sym more)
         (subst (IsAt (take i text ++ get_or text i 0 ∷ [])) (sym (read_push (quiet start) (take i text) (get_or text i 0))) (byte_at (take i text) (run (take i text)) (get_or text i 0) (front i (omega arith))))
 
@@ -362,5 +420,127 @@ tells text = by (run text) (is_at text)
     by step (inl r) = let right = reads_right text step.state step.given r in (r.fault ∙ sym right.0, right.1)
     by step (inr s) = (s.is ∙ sym s.wrong_is, s.given)
 
+-- the last line
+snoc_view : (xs : List ℕ) → (xs ≡ []) ⊎ ((ys : List ℕ) × (y : ℕ) × (xs ≡ ys ++ y ∷ []))
+snoc_view [] = inl refl
+snoc_view (x ∷ xs) = inr (by (snoc_view xs))
+  where
+    by : (xs ≡ []) ⊎ ((ys : List ℕ) × (y : ℕ) × (xs ≡ ys ++ y ∷ [])) → (ys : List ℕ) × (y : ℕ) × (x ∷ xs ≡ ys ++ y ∷ [])
+    by (inl is) = ([], x, ap (λ (r : List ℕ). x ∷ r) is)
+    by (inr h) = (x ∷ h.0, h.1, ap (λ (r : List ℕ). x ∷ r) h.2)
+
+last_byte : (ys : List ℕ) (y : ℕ) → slice_index (ys ++ y ∷ []) (length (ys ++ y ∷ []) - 1) ≡ y
+last_byte ys y = ap (slice_index (ys ++ y ∷ [])) (let k = push_length ys y in omega arith) ∙ at ys y
+  where
+    at : (ys : List ℕ) (y : ℕ) → slice_index (ys ++ y ∷ []) (length ys) ≡ y
+    at [] y = refl
+    at (x ∷ xs) y = at xs y
+
+last_row_some : (ys : List ℕ) (y : ℕ) → is_line_feed y ≡ false → 0 < length (last_row (ys ++ y ∷ []))
+last_row_some ys y h = let e = last_part-more is_line_feed ys y h in let k = push_length (last_row ys) y in omega (arith, ap length e)
+
+last_line_is : (ys : List ℕ) (y : ℕ) (feed : Bool) → is_line_feed y ≡ feed → last_line (ys ++ y ∷ []) ≡ line_behind ys
+last_line_is ys y feed h =
+    ap (λ k. k + cond (is_line_feed (slice_index (ys ++ y ∷ []) (length (ys ++ y ∷ []) - 1))) 0 1) (count_by-push is_line_feed ys y ∙ ap (λ c. count_by is_line_feed ys + cond c 1 0) h)
+    ∙ ap (λ c. (count_by is_line_feed ys + cond feed 1 0) + cond c 0 1) (ap is_line_feed (last_byte ys y) ∙ h) ∙ by feed (count_by is_line_feed ys)
+  where
+    by : (feed : Bool) (k : ℕ) → (k + cond feed 1 0) + cond feed 0 1 ≡ k + 1
+    by true k = omega arith
+    by false k = omega arith
+
+last_from_some : (n : ℕ) (ys : List ℕ) (y : ℕ) (feed : Bool) → is_line_feed y ≡ feed → n ≡ line_behind (ys ++ y ∷ []) → 0 < length (last_row (ys ++ y ∷ [])) → n ≡ line_behind ys
+last_from_some n ys y true h is at = absurd (let e = last_part-at is_line_feed ys y h in omega (arith, ap length e))
+last_from_some n ys y false h is at = let k = line_feed_line ys y false h in omega arith
+
+-- the number of the last line, where the next byte stands on this one
+last_from : (p : Place) (n : ℕ) (ys : List ℕ) (y : ℕ) (feed : Bool) → is_line_feed y ≡ feed → n ≡ line_behind (ys ++ y ∷ []) → EndsAt p (last_row (ys ++ y ∷ [])) → last_at p n ≡ line_behind ys
+last_from place.Start n ys y true h is at = by n (line_behind ys) (let k = line_feed_line ys y true h in is ∙ k) (omega arith)
+  where
+    by : (n m : ℕ) → n ≡ m + 1 → 0 < m → cond (nat_lt 1 n) (n - 1) n ≡ m
+    by n m is some = rw (lt-ltb 1 n (omega arith)) (omega arith)
+last_from place.Start n ys y false h is at = absurd (let k = last_row_some ys y h in omega (arith, ap length at))
+last_from place.Margin n ys y feed h is at = last_from_some n ys y feed h is at
+last_from place.Comment n ys y feed h is at = last_from_some n ys y feed h is at
+last_from place.Gap n ys y feed h is at = last_from_some n ys y feed h is at
+last_from place.Word n ys y feed h is at = last_from_some n ys y feed h is at
+
+last_is : (p : Place) (text : List ℕ) (n : ℕ) → n ≡ line_behind text → EndsAt p (last_row text) → last_at p n ≡ last_line text
+last_is p text n is at = by (snoc_view text)
+  where
+    none : (p : Place) → EndsAt p [] → last_at p 1 ≡ 1
+    none place.Start at = refl
+    none place.Margin at = refl
+    none place.Comment at = refl
+    none place.Gap at = refl
+    none place.Word at = refl
+    by : (text ≡ []) ⊎ ((ys : List ℕ) × (y : ℕ) × (text ≡ ys ++ y ∷ [])) → last_at p n ≡ last_line text
+    by (inl empty) =
+        ap (last_at p) (is ∙ ap line_behind empty) ∙ none p (subst (EndsAt p) (ap last_row empty) at) ∙ sym (ap last_line empty)
+    by (inr more) =
+        last_from p n more.0 more.1 (is_line_feed more.1) refl (is ∙ ap line_behind more.2) (subst (EndsAt p) (ap last_row more.2) at)
+        ∙ sym (ap last_line more.2 ∙ last_line_is more.0 more.1 (is_line_feed more.1) refl)
+
+-- after the end of the text
+abbrev AtEnd : List ℕ → List Numbered → Step → Type 0
+AtEnd text out end = (end.state.fault ≡ wrong text true) × (out ++ end.given ≡ statements text true)
+
+stopped_end : (s : State) (f : Fault) → s.fault ≡ Some f → finished s ≡ quiet s
+unfolding finished
+stopped_end s f h = ap (λ (o : Option Fault). finished_unless o s) h
+
+next_end : (s : State) → s.fault ≡ None → finished s ≡ finished_unless None s
+unfolding finished
+next_end s h = ap (λ (o : Option Fault). finished_unless o s) h
+
+-- a fault stays at the end
+settled_end : (text : List ℕ) (f : Fault) → wrong text false ≡ Some f → (wrong text true ≡ Some f) × (statements text true ≡ statements text false)
+settled_end text f h = by (cases_lt 4294967296 (length text))
+  where
+    short : length text ≤ 4294967296 → (wrong text true ≡ Some f) × (statements text true ≡ statements text false)
+    short le =
+        let was : wrong_under (header_of (line_behind text) (tokens_of text false)) ≡ Some f = sym (short_wrong text le) ∙ h in
+        let stays = here_or_nothing text f (line_behind text) (omega arith) was in (
+          short_wrong_end text le ∙ ap (λ (ts : List Token). option_or (wrong_under (header_of (line_behind text) ts)) (wrong_end (last_line text) (header_of (line_behind text) ts))) (tokens_of-ended text)
+          ∙ ap (λ (o : Option Fault). option_or o (wrong_end (last_line text) (header_of (line_behind text) (with_here text)))) stays.0,
+          short_statements text true le ∙ ap (λ (ts : List Token). statements_under (header_of (line_behind text) ts)) (tokens_of-ended text) ∙ stays.1 ∙ sym (short_statements text false le),
+        )
+    by : (4294967296 < length text) ⊎ (length text ≤ 4294967296) → (wrong text true ≡ Some f) × (statements text true ≡ statements text false)
+    by (inl long) = (long_end text (long_text text long) ∙ h, long_statements_end text (long_text text long))
+    by (inr le) = short le
+
+end_at_word : (text : List ℕ) (s : State) (e : Step) (out : List Numbered) → length text ≤ 4294967296 → s.line ≡ line_behind text → Ended text s e out → AtEnd text out (record e { state = ended_unless e.state.fault e.state })
+end_at_word text s e out short line end = by (some_or_none e.state.fault)
+  where
+    headers : header_of (line_behind text) (tokens_of text true) ≡ header_of s.line (with_here text)
+    headers = ap (λ n. header_of n (tokens_of text true)) (sym line) ∙ ap (header_of s.line) (tokens_of-ended text)
+    wrong_then : wrong text true ≡ option_or (wrong_under (header_of s.line (with_here text))) (wrong_end (last_line text) (header_of s.line (with_here text)))
+    wrong_then = short_wrong_end text short ∙ ap (λ (h : Header). option_or (wrong_under h) (wrong_end (last_line text) h)) headers
+    given_then : statements text true ≡ statements_under (header_of s.line (with_here text))
+    given_then = short_statements text true short ∙ ap statements_under headers
+    by : (e.state.fault ≡ None) ⊎ ((f : Fault) × (e.state.fault ≡ Some f)) → AtEnd text out (record e { state = ended_unless e.state.fault e.state })
+    by (inl none) =
+        let knows = end.goes none in
+        let right = knows_right e.state.parse s.line (with_here text) (out ++ e.given) knows in
+        subst (λ (o : Option Fault). AtEnd text out (record e { state = ended_unless o e.state })) (sym none) (
+          end_is e.state.parse s.line (last_at e.state.place e.state.line) (with_here text) (out ++ e.given) knows
+          ∙ ap (λ n. wrong_end n (header_of s.line (with_here text))) (last_is e.state.place text e.state.line (end.line ∙ line) end.ends_at)
+          ∙ sym (wrong_then ∙ ap (λ (o : Option Fault). option_or o (wrong_end (last_line text) (header_of s.line (with_here text)))) right.0),
+          right.1 ∙ sym given_then,
+        )
+    by (inr some) =
+        let stops = end.stops some.0 some.1 in
+        subst (λ (o : Option Fault). AtEnd text out (record e { state = ended_unless o e.state })) (sym some.1) (
+          some.1 ∙ sym (wrong_then ∙ ap (λ (o : Option Fault). option_or o (wrong_end (last_line text) (header_of s.line (with_here text)))) stops.0),
+          stops.1 ∙ sym given_then,
+        )
+
 pub ends : (text : List ℕ) → ((finished (run text).state).state.fault ≡ wrong text true) × (statements text false ++ (finished (run text).state).given ≡ statements text true)
-ends text = ?
+ends text = subst (λ (out : List Numbered). AtEnd text out (finished (run text).state)) (tells text).1 (by (run text) (is_at text))
+  where
+    by : (step : Step) → IsAt text step → AtEnd text step.given (finished step.state)
+    by step (inl r) =
+        subst (AtEnd text step.given) (sym (next_end step.state r.fault))
+        (end_at_word text step.state (word_ended step.state) step.given r.short r.line (word_ends step.state.place text step.state step.given refl r.fault r.line r.place r.knows))
+    by step (inr h) =
+        let stays = settled_end text h.fault h.wrong_is in
+        subst (AtEnd text step.given) (sym (stopped_end step.state h.fault h.is)) (h.is ∙ sym stays.0, append-nil step.given ∙ h.given ∙ sym stays.1)
