@@ -4,3 +4,4 @@ pub mod Layout
 pub mod Number
 pub mod Judgement
 pub mod Machine
+pub mod Printed

@@ -9,12 +9,14 @@ mod literals;
 mod parser;
 mod places;
 mod plain;
+mod printing;
 mod reader;
 mod sets;
 mod statements;
 mod words;
 
 pub use plain::read_plain;
+pub use printing::print;
 pub use reader::{Fed, Reader};
 pub use faults::{Fault, Reason};
 pub use statements::{Numbered, Statement, Statements};
