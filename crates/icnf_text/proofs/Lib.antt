@@ -11,3 +11,4 @@ pub mod StatementStates
 pub mod HeaderStates
 pub mod Truth
 pub mod Runs
+pub mod ReadBack

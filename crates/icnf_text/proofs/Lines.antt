@@ -187,7 +187,7 @@ closed_from-push n (l ∷ ls) line =
 last_words : Bool → List ℕ → List (List ℕ)
 last_words e line = cond e (words_of line) (ended_words_of line)
 
-tokens_from-push : (e : Bool) (n : ℕ) (lines : List (List ℕ)) (line : List ℕ) → tokens_from e n (lines ++ line ∷ []) ≡ closed_from n lines ++ tokens_on (n + length lines) line (cond e (words_of line) (ended_words_of line))
+pub tokens_from-push : (e : Bool) (n : ℕ) (lines : List (List ℕ)) (line : List ℕ) → tokens_from e n (lines ++ line ∷ []) ≡ closed_from n lines ++ tokens_on (n + length lines) line (cond e (words_of line) (ended_words_of line))
 tokens_from-push e n [] line = ap (λ k. tokens_on k line (cond e (words_of line) (ended_words_of line))) (omega arith)
 tokens_from-push e n (l ∷ []) line =
     ap (λ (r : List Token). tokens_on n l (words_of l) ++ r) (tokens_from-push e (n + 1) [] line ∙ ap (λ k. tokens_on k line (cond e (words_of line) (ended_words_of line))) (omega arith))

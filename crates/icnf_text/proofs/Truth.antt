@@ -51,7 +51,7 @@ short_wrong text h =
     ap (λ b. option_or (wrong_under (header text false)) (cond b (Some (record { line = line_behind (within text); reason = reason.TooLong })) None)) (short_long text h)
     ∙ or_none (wrong_under (header text false)) ∙ ap wrong_under (short_header text false h)
 
-short_wrong_end : (text : List ℕ) → length text ≤ 4294967296 → wrong text true ≡ option_or (wrong_under (header_of (line_behind text) (tokens_of text true))) (wrong_end (last_line text) (header_of (line_behind text) (tokens_of text true)))
+pub short_wrong_end : (text : List ℕ) → length text ≤ 4294967296 → wrong text true ≡ option_or (wrong_under (header_of (line_behind text) (tokens_of text true))) (wrong_end (last_line text) (header_of (line_behind text) (tokens_of text true)))
 unfolding wrong
 short_wrong_end text h =
     ap (λ b. option_or (wrong_under (header text true)) (cond b (Some (record { line = line_behind (within text); reason = reason.TooLong })) (wrong_end (last_line text) (header text true)))) (short_long text h)
