@@ -1,12 +1,12 @@
 -- Runs of a reader over a text, in any pieces.
 use Rattle.std.proofs.Common.{◌≡◌, ◌∙◌, ℕ, ◌+◌, ◌<◌, List, [], ◌∷◌, ◌++◌, length, take, get_or, refl, ap, sym, subst, append_assoc, append-nil}
-use Rattle.std.specs.Prelude.{true, false, Option}
+use Rattle.std.specs.Prelude.{true, false, Option, Some}
 use Rattle.std.proofs.lemmas.List.{take_more}
 use Rattle.icnf_text.specs.declared.statements.Numbered.{Numbered}
 use Rattle.icnf_text.specs.declared.faults.Fault.{Fault}
 use Rattle.icnf_text.specs.Judgement.{statements, wrong}
 use Rattle.icnf_text.specs.Machine.{State, Step, quiet, start, read_byte, and_then, read_bytes, finished, HasRead}
-use Rattle.icnf_text.proofs.Truth.{run, tells, ends}
+use Rattle.icnf_text.proofs.Truth.{run, tells, ends, stopped_byte}
 
 read_bytes-append : (step : Step) (xs ys : List ℕ) → read_bytes step (xs ++ ys) ≡ read_bytes (read_bytes step xs) ys
 read_bytes-append step [] ys = refl
@@ -61,3 +61,16 @@ byte_given old now new s b step whole made was at is =
 
 pub byte_state : (new s : State) (b : ℕ) (step whole : Step) → new ≡ (read_byte s b).state → s ≡ step.state → whole ≡ and_then step b → new ≡ whole.state
 byte_state new s b step whole made at is = made ∙ ap (λ (t : State). (read_byte t b).state) at ∙ ap (λ (t : Step). t.state) (sym is)
+
+-- behind a fault nothing changes
+stays_stopped : (s : State) (f : Fault) (bytes : List ℕ) → s.fault ≡ Some f → read_bytes (quiet s) bytes ≡ quiet s
+stays_stopped s f [] h = refl
+stays_stopped s f (b ∷ bs) h = ap (λ (t : Step). read_bytes (record { state = t.state; given = [] ++ t.given }) bs) (stopped_byte s b f h) ∙ stays_stopped s f bs h
+
+pub feed_after_fault : (s new : State) (text piece : List ℕ) (given : List Numbered) (f : Fault) → new ≡ (read_bytes (quiet s) piece).state → given ≡ (read_bytes (quiet s) piece).given → HasRead s text → wrong text false ≡ Some f →
+    (given ≡ []) × (new.fault ≡ Some f)
+unfolding HasRead
+feed_after_fault s new text piece given f is given_is has h =
+    let fault : s.fault ≡ Some f = ap (λ (t : State). t.fault) has ∙ (tells text).0 ∙ h in
+    let still = stays_stopped s f piece fault in
+    (given_is ∙ ap (λ (t : Step). t.given) still, ap (λ (t : State). t.fault) (is ∙ ap (λ (t : Step). t.state) still) ∙ fault)

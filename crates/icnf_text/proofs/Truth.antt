@@ -181,7 +181,7 @@ reads_right text s out r =
 abbrev After : List ℕ → List Numbered → Step → Type 0
 After text out next = Reads text next.state (out ++ next.given) ⊎ IsStopped text next.state (out ++ next.given)
 
-stopped_byte : (s : State) (b : ℕ) (f : Fault) → s.fault ≡ Some f → read_byte s b ≡ quiet s
+pub stopped_byte : (s : State) (b : ℕ) (f : Fault) → s.fault ≡ Some f → read_byte s b ≡ quiet s
 unfolding read_byte
 stopped_byte s b f h = ap (λ (o : Option Fault). read_unless o s b) h
 

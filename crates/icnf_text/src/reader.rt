@@ -2,7 +2,8 @@
 
 ghost use Rattle.std.specs.Prelude.{◌≡◌, ◌≤◌, false, true, ◌++◌, [], ◌∷◌, List, ℕ, Some, OnOk, OnErr, IfOk, IsErr};
 ghost use Rattle.icnf_text.specs.Judgement.{fault_on, statements, wrong};
-ghost use Rattle.icnf_text.specs.Machine.{HasRead, IsLost, finished, last_at, put_at, read_byte, read_bytes, start, word_ended, with_byte, margin, line_ended, quiet};
+ghost use Rattle.icnf_text.specs.declared.faults.Fault.{Fault};
+ghost use Rattle.icnf_text.specs.Machine.{HasRead, IsLost, finished, last_at, put_at, read_byte, read_bytes, word_ended, margin, line_ended, quiet};
 
 use crate::parser::Parser;
 use crate::places::Place;
@@ -50,7 +51,7 @@ impl Model for Reader {
 impl Reader {
     /// A reader that has read nothing. Takes no memory.
     pub fn new(alloc: Global) -> Reader
-        ensures { result ≡ start }
+        ensures { HasRead result [] }
     {
         Reader {
             alloc,
@@ -72,6 +73,8 @@ impl Reader {
         ensures given { IfOk result (λ fed. (text : List ℕ) → HasRead self.old text →
             statements text false ++ fed.statements ≡ statements (text ++ piece.now) false) }
         ensures fault { IfOk result (λ fed. (text : List ℕ) → HasRead self.old text → fed.fault ≡ wrong (text ++ piece.now) false) }
+        ensures after_fault { IfOk result (λ fed. (text : List ℕ) (fault : Fault) → HasRead self.old text → wrong text false ≡ Some fault →
+            (fed.statements ≡ []) × (fed.fault ≡ Some fault)) }
         ensures lost { OnErr result (IsLost self.new) }
         ensures stays_lost { IsLost self.old → IsErr result }
     {
@@ -144,8 +147,8 @@ impl Reader {
     {
         match self.place {
             Place::Word => {
-                let reason = self.parser.word(self.line, self.word, given)?;
-                self.fault = fault_on(self.line, reason);
+                let wrong = self.parser.word(self.line, self.word, given)?;
+                self.fault = fault_on(self.line, wrong);
                 self.place = Place::Gap;
                 self.word = Word::Nothing;
                 Ok(())

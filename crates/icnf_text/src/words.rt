@@ -64,6 +64,7 @@ fn first_digit(byte: u8) -> Word
     ensures { result ≡ first_digit byte }
 {
     match byte {
+        b'0' => Word::Strange,
         b'1'..=b'9' => Word::Number {
             negative: true,
             variable: (byte - b'0') as u32,
