@@ -1,22 +1,13 @@
 -- Statements of tokens, with one more token.
-use Rattle.std.proofs.Common.{◌≡◌, ◌∙◌, ℕ, zero, suc, ◌+◌, ◌-◌, ◌*◌, ◌<◌, ◌≤◌, List, [], ◌∷◌, ◌++◌, length, map, Bool, true, false, cond, refl, ap, sym, subst, arith, append_assoc, append-nil, add-zero}
-use Rattle.std.specs.Prelude.{◌&&◌, ◌||◌, ◌==◌, not, nat_lt, nat_le, Option, Some, None, is_some, filter, count_by, codes}
-use Rattle.std.specs.Option.{option_or, option_map}
-use Rattle.std.specs.Str.{bytes_eq}
+use Rattle.std.proofs.Common.{◌≡◌, ◌∙◌, ℕ, ◌+◌, List, [], ◌∷◌, ◌++◌, map, Bool, true, false, cond, refl, ap, sym, append_assoc, append-nil}
+use Rattle.std.specs.Prelude.{Option, Some, None, is_some, filter, count_by}
+use Rattle.std.specs.Option.{option_or}
 use Rattle.std.proofs.lemmas.List.Sums.{sum_by_push}
-use Rattle.std.proofs.lemmas.Bool.Decides.{nat_tests}
-use Rattle.icnf_text.specs.declared.statements.Statement.{Statement}
-use Rattle.icnf_text.specs.declared.statements.Statement.TheVariants.{Clause, Cube}
-use Rattle.icnf_text.specs.declared.statements.Numbered.{Numbered}
 use Rattle.icnf_text.specs.declared.faults.Reason.{Reason}
-use Rattle.icnf_text.specs.declared.faults.Reason.TheVariants as reason
 use Rattle.icnf_text.specs.declared.faults.Fault.{Fault}
-use Rattle.icnf_text.specs.declared.parser.Open.{Open}
-use Rattle.icnf_text.specs.declared.parser.Open.TheVariants as open_as
 use Rattle.icnf_text.specs.Layout.{Token}
-use Rattle.icnf_text.specs.Number.{is_zero, is_mark, is_literal, code_of, variable_of, is_variable}
-use Rattle.icnf_text.specs.Judgement.{groups_after, groups_of, open_after, open_of, set_of, lits_of, begins_cube, first_line, statement_of, statements_of, is_clause, count_clauses, count_cubes, count_literals, is_begin, is_one_too_many, reason_of, right_after, fault_on, wrong_after}
-use Rattle.icnf_text.specs.Machine.{Parse, Taken, goes_on, stops, mark_at, begun_at, begun, pushed_unless, literal_taken, statement_as, closed_unless, zero_taken}
+use Rattle.icnf_text.specs.Number.{is_zero, is_literal, code_of}
+use Rattle.icnf_text.specs.Judgement.{groups_after, groups_of, open_after, open_of, lits_of, statement_of, statements_of, reason_of, right_after, fault_on, wrong_after}
 
 -- one token more
 pub open_after-push : (before tokens : List Token) (t : Token) → open_after before (tokens ++ t ∷ []) ≡ cond (is_zero t.bytes) [] (open_after before tokens ++ t ∷ [])

@@ -1,6 +1,6 @@
 -- What a reader knows of all tokens, with one more token and with one more line.
-use Rattle.std.proofs.Common.{◌≡◌, ◌∙◌, ℕ, ◌+◌, ◌<◌, ◌≤◌, List, [], ◌∷◌, ◌++◌, length, Bool, true, false, cond, refl, ap, sym, subst, arith, append-nil, inl, inr}
-use Rattle.std.specs.Prelude.{◌⊎◌, ◌&&◌, ◌==◌, not, nat_lt, nat_le, Option, Some, None, filter, codes}
+use Rattle.std.proofs.Common.{◌≡◌, ◌∙◌, ℕ, ◌+◌, ◌<◌, ◌≤◌, List, [], ◌∷◌, ◌++◌, length, Bool, true, false, cond, refl, ap, sym, subst, arith, append-nil}
+use Rattle.std.specs.Prelude.{◌&&◌, ◌==◌, not, nat_lt, nat_le, Option, Some, None, filter, codes}
 use Rattle.std.specs.Option.{option_or}
 use Rattle.std.specs.Str.{bytes_eq}
 use Rattle.std.proofs.lemmas.Bool.{and_from, lt-ltb, ltb-true}
@@ -88,10 +88,13 @@ knows_right parse n tokens out h = by parse.phase h.at
   where
     found : (header : Header) (body : List Token) → header ≡ Found body → Holds parse body out → (wrong_under header ≡ None) × (out ≡ statements_under header)
     found header body is holds = let right = found_right body holds.right in (ap wrong_under is ∙ right.0, holds.given ∙ sym right.1 ∙ ap statements_under (sym is))
+
     missing : (header : Header) → header ≡ Missing → Holds parse [] out → (wrong_under header ≡ None) × (out ≡ statements_under header)
     missing header is holds = (ap wrong_under is, holds.given ∙ ap statements_under (sym is))
+
     after_p : (first : Token) → bytes_eq first.bytes (codes "p") ≡ true → first.line ≡ n → header_of n (first ∷ []) ≡ Missing
     after_p first is line = ap (λ b. cond b Missing (Broken first.line)) (and_from _ _ is (ap not (same_line first.line n line)))
+
     by : (p : Phase) → IsPhase p parse n tokens out → (wrong_under (header_of n tokens) ≡ None) × (out ≡ statements_under (header_of n tokens))
     by phase.Nothing at = missing (header_of n tokens) (ap (header_of n) at.0) at.1
     by phase.AfterP at = missing (header_of n tokens) (ap (header_of n) at.whole ∙ after_p at.first at.is at.line_is) at.holds
@@ -101,15 +104,15 @@ knows_right parse n tokens out h = by parse.phase h.at
 -- one token more behind a header
 header_push : (tokens : List Token) (line : ℕ) (body : List Token) (t : Token) (b : Bool) → nat_lt line t.line ≡ b → HasHeader tokens line body → HasHeader (tokens ++ t ∷ []) line (body ++ cond b (t ∷ []) [])
 header_push tokens line body t b is h = record {
-    first = h.first;
-    second = h.second;
-    more = h.more ++ t ∷ [];
-    whole = ap (λ (r : List Token). r ++ t ∷ []) h.whole;
-    right = h.right;
-    line_is = h.line_is;
-    body_is = filter-push (is_behind h.first.line) h.more t ∙ ap (λ (r : List Token). r ++ cond (is_behind h.first.line t) (t ∷ []) []) h.body_is
-        ∙ ap (λ c. body ++ cond c (t ∷ []) []) (ap (λ l. nat_lt l t.line) h.line_is ∙ is);
-  }
+  first = h.first;
+  second = h.second;
+  more = h.more ++ t ∷ [];
+  whole = ap (λ (r : List Token). r ++ t ∷ []) h.whole;
+  right = h.right;
+  line_is = h.line_is;
+  body_is = filter-push (is_behind h.first.line) h.more t ∙ ap (λ (r : List Token). r ++ cond (is_behind h.first.line t) (t ∷ []) []) h.body_is
+      ∙ ap (λ c. body ++ cond c (t ∷ []) []) (ap (λ l. nat_lt l t.line) h.line_is ∙ is);
+}
 
 -- the state of statements doesn't depend on the header's
 holds_phase : (parse : Parse) (p : Phase) (tokens : List Token) (out : List Numbered) → Holds parse tokens out → Holds (record parse { phase = p }) tokens (out ++ [])
@@ -125,29 +128,31 @@ same_some r q h = cc
 first_by : (b : Bool) (parse : Parse) (n : ℕ) (t : Token) (out : List Numbered) → bytes_eq t.bytes (codes "p") ≡ b → t.line ≡ n → Holds parse [] out →
     Comes (cond b (goes_on (record parse { phase = phase.AfterP })) (stops parse reason.Header)) n n (t ∷ []) out
 first_by true parse n t out is line h = record {
-    goes = λ _. record { at = record { first = t; whole = refl; is = is; line_is = line; holds = holds_phase parse phase.AfterP [] out h } };
-    stays = λ r q. cc;
-  }
+  goes = λ _. record { at = record { first = t; whole = refl; is = is; line_is = line; holds = holds_phase parse phase.AfterP [] out h } };
+  stays = λ r q. cc;
+}
 first_by false parse n t out is line h = record {
-    goes = λ q. cc;
-    stays = λ r q. subst (λ (x : Reason). (wrong_under (header_of n (t ∷ [])) ≡ Some (record { line = n; reason = x })) × (out ++ [] ≡ statements_under (header_of n (t ∷ [])))) (same_some reason.Header r q)
-        (broken (header_of n (t ∷ [])) n parse out (ap (λ c. cond (c && not (nat_lt t.line n)) Missing (Broken t.line)) is ∙ ap Broken line) h);
-  }
+  goes = λ q. cc;
+  stays = λ r q. subst (λ (x : Reason). (wrong_under (header_of n (t ∷ [])) ≡ Some (record { line = n; reason = x })) × (out ++ [] ≡ statements_under (header_of n (t ∷ [])))) (same_some reason.Header r q)
+      (broken (header_of n (t ∷ [])) n parse out (ap (λ c. cond (c && not (nat_lt t.line n)) Missing (Broken t.line)) is ∙ ap Broken line) h);
+}
 
 second_by : (b : Bool) (parse : Parse) (n : ℕ) (first t : Token) (out : List Numbered) → bytes_eq t.bytes (codes "inccnf") ≡ b → bytes_eq first.bytes (codes "p") ≡ true → first.line ≡ n → t.line ≡ n → Holds parse [] out →
     Comes (cond b (goes_on (record parse { phase = phase.Rest })) (stops parse reason.Header)) n n (first ∷ t ∷ []) out
 second_by true parse n first t out is p line line' h = record {
-    goes = λ _. record { at = record {
+  goes = λ _. record {
+    at = record {
       header = record { first = first; second = t; more = []; whole = refl; right = and_from _ _ (and_from _ _ p (eq_line first.line t.line (line ∙ sym line'))) is; line_is = line; body_is = refl };
       holds = holds_phase parse phase.Rest [] out h;
-    } };
-    stays = λ r q. cc;
-  }
+    };
+  };
+  stays = λ r q. cc;
+}
 second_by false parse n first t out is p line line' h = record {
-    goes = λ q. cc;
-    stays = λ r q. subst (λ (x : Reason). (wrong_under (header_of n (first ∷ t ∷ [])) ≡ Some (record { line = n; reason = x })) × (out ++ [] ≡ statements_under (header_of n (first ∷ t ∷ [])))) (same_some reason.Header r q)
-        (broken (header_of n (first ∷ t ∷ [])) n parse out (no (bytes_eq first.bytes (codes "p") && first.line == t.line) ∙ ap Broken line) h);
-  }
+  goes = λ q. cc;
+  stays = λ r q. subst (λ (x : Reason). (wrong_under (header_of n (first ∷ t ∷ [])) ≡ Some (record { line = n; reason = x })) × (out ++ [] ≡ statements_under (header_of n (first ∷ t ∷ [])))) (same_some reason.Header r q)
+      (broken (header_of n (first ∷ t ∷ [])) n parse out (no (bytes_eq first.bytes (codes "p") && first.line == t.line) ∙ ap Broken line) h);
+}
   where
     no : (a : Bool) → cond (a && bytes_eq t.bytes (codes "inccnf")) (Found []) (Broken first.line) ≡ Broken first.line
     no true = ap (λ c. cond c (Found []) (Broken first.line)) is
@@ -155,10 +160,12 @@ second_by false parse n first t out is p line line' h = record {
 
 rest_takes : (parse : Parse) (n : ℕ) (tokens : List Token) (t : Token) (out : List Numbered) → parse.phase ≡ phase.Rest → t.line ≡ n → IsRest parse n tokens out → Comes (goes_on parse) n n (tokens ++ t ∷ []) out
 rest_takes parse n tokens t out e line h = record {
-    goes = λ _. record { at = subst (λ (p : Phase). IsPhase p parse n (tokens ++ t ∷ []) (out ++ [])) (sym e)
-        (record { header = header_push tokens n [] t false (same_line n t.line (sym line)) h.header; holds = subst (Holds parse []) (sym (append-nil out)) h.holds }) };
-    stays = λ r q. cc;
-  }
+  goes = λ _. record {
+    at = subst (λ (p : Phase). IsPhase p parse n (tokens ++ t ∷ []) (out ++ [])) (sym e)
+        (record { header = header_push tokens n [] t false (same_line n t.line (sym line)) h.header; holds = subst (Holds parse []) (sym (append-nil out)) h.holds });
+  };
+  stays = λ r q. cc;
+}
 
 -- a token keeps the phase of the body
 body_takes : (parse : Parse) (taken : Taken) (n line : ℕ) (body tokens : List Token) (t : Token) (out : List Numbered) → taken.parse.phase ≡ phase.Body → t.line ≡ n → line < n → HasHeader tokens line body → Holds parse body out → Takes taken body t out →
@@ -166,14 +173,16 @@ body_takes : (parse : Parse) (taken : Taken) (n line : ℕ) (body tokens : List 
 body_takes parse taken n line body tokens t out e at_line behind header holds takes =
     let more : HasHeader (tokens ++ t ∷ []) line (body ++ t ∷ []) = header_push tokens line body t true (lt-ltb line t.line (omega arith)) header in
     let found : header_of n (tokens ++ t ∷ []) ≡ Found (body ++ t ∷ []) = header_found n (tokens ++ t ∷ []) line (body ++ t ∷ []) more in record {
-      goes = λ q. record { at = subst (λ (p : Phase). IsPhase p taken.parse n (tokens ++ t ∷ []) (out ++ taken.given)) (sym e)
-          (record { line = line; body = body ++ t ∷ []; header = more; behind = behind; holds = takes.goes q }) };
+      goes = λ q. record {
+        at = subst (λ (p : Phase). IsPhase p taken.parse n (tokens ++ t ∷ []) (out ++ taken.given)) (sym e)
+            (record { line = line; body = body ++ t ∷ []; header = more; behind = behind; holds = takes.goes q });
+      };
       stays = λ r q.
           let why : reason_of body t.bytes ≡ Some r = sym takes.why ∙ q in (
             ap wrong_under found ∙ wrong_after-push [] body t ∙ ap (λ (w : Option Fault). option_or w (fault_on t.line (reason_of body t.bytes))) holds.right
-            ∙ ap (fault_on t.line) why ∙ ap (λ l. Some (record { line = l; reason = r })) at_line,
+                ∙ ap (fault_on t.line) why ∙ ap (λ l. Some (record { line = l; reason = r })) at_line,
             ap (λ (g : List Numbered). out ++ g) (takes.stays r q) ∙ append-nil out ∙ holds.given
-            ∙ sym (ap statements_of (right_stops [] body t r holds.right why)) ∙ ap statements_under (sym found),
+                ∙ sym (ap statements_of (right_stops [] body t r holds.right why)) ∙ ap statements_under (sym found),
           );
     }
 
@@ -241,25 +250,28 @@ line_comes parse n tokens out h = by parse.phase refl h.at
         no : (a : Bool) → cond (a && false) Missing (Broken first.line) ≡ Broken first.line
         no true = refl
         no false = refl
+
     by : (p : Phase) → parse.phase ≡ p → IsPhase p parse n tokens out → Comes (line_at p parse) n (n + 1) tokens out
     by phase.Nothing e at = record {
-        goes = λ _. record { at = subst (λ (p : Phase). IsPhase p parse (n + 1) tokens (out ++ [])) (sym e) (at.0, subst (Holds parse []) (sym (append-nil out)) at.1) };
-        stays = λ r q. cc;
-      }
+      goes = λ _. record { at = subst (λ (p : Phase). IsPhase p parse (n + 1) tokens (out ++ [])) (sym e) (at.0, subst (Holds parse []) (sym (append-nil out)) at.1) };
+      stays = λ r q. cc;
+    }
     by phase.AfterP e at = record {
-        goes = λ q. cc;
-        stays = λ r q. subst (λ (x : Reason). (wrong_under (header_of (n + 1) tokens) ≡ Some (record { line = n; reason = x })) × (out ++ [] ≡ statements_under (header_of (n + 1) tokens))) (same_some reason.Header r q)
-            (broken (header_of (n + 1) tokens) n parse out (ap (header_of (n + 1)) at.whole ∙ after at.first at.line_is) at.holds);
-      }
+      goes = λ q. cc;
+      stays = λ r q. subst (λ (x : Reason). (wrong_under (header_of (n + 1) tokens) ≡ Some (record { line = n; reason = x })) × (out ++ [] ≡ statements_under (header_of (n + 1) tokens))) (same_some reason.Header r q)
+          (broken (header_of (n + 1) tokens) n parse out (ap (header_of (n + 1)) at.whole ∙ after at.first at.line_is) at.holds);
+    }
     by phase.Rest e at = record {
-        goes = λ _. record { at = record { line = n; body = []; header = at.header; behind = omega arith; holds = holds_phase parse phase.Body [] out at.holds } };
-        stays = λ r q. cc;
-      }
+      goes = λ _. record { at = record { line = n; body = []; header = at.header; behind = omega arith; holds = holds_phase parse phase.Body [] out at.holds } };
+      stays = λ r q. cc;
+    }
     by phase.Body e at = record {
-        goes = λ _. record { at = subst (λ (p : Phase). IsPhase p parse (n + 1) tokens (out ++ [])) (sym e)
-            (record { line = at.line; body = at.body; header = at.header; behind = (let b = at.behind in omega arith); holds = subst (Holds parse at.body) (sym (append-nil out)) at.holds }) };
-        stays = λ r q. cc;
-      }
+      goes = λ _. record {
+        at = subst (λ (p : Phase). IsPhase p parse (n + 1) tokens (out ++ [])) (sym e)
+            (record { line = at.line; body = at.body; header = at.header; behind = (let b = at.behind in omega arith); holds = subst (Holds parse at.body) (sym (append-nil out)) at.holds });
+      };
+      stays = λ r q. cc;
+    }
 
 -- no token yet
 pub knows_nothing : Knows start.parse 1 [] []
@@ -288,6 +300,7 @@ end_is parse n line tokens out h = by parse.phase h.at
   where
     after_p : (first : Token) → bytes_eq first.bytes (codes "p") ≡ true → first.line ≡ n → header_of n (first ∷ []) ≡ Missing
     after_p first is at = ap (λ b. cond b Missing (Broken first.line)) (and_from _ _ is (ap not (same_line first.line n at)))
+
     by : (p : Phase) → IsPhase p parse n tokens out → fault_on line (end_at p parse) ≡ wrong_end line (header_of n tokens)
     by phase.Nothing at = ap (wrong_end line) (sym (ap (header_of n) at.0))
     by phase.AfterP at = ap (wrong_end line) (sym (ap (header_of n) at.whole ∙ after_p at.first at.is at.line_is))
@@ -311,6 +324,7 @@ one_stays true true n m t (u ∷ us) f h k le on is = (ap wrong_under broken_too
   where
     apart : (a b : ℕ) → a < b → (a == b) ≡ false
     apart a b lt = grind (arith, nat_tests)
+
     broken_too : header_of m (t ∷ u ∷ us) ≡ Broken t.line
     broken_too = rw (h, apart t.line u.line (let low = ltb-true t.line n k in let at = on u us refl in omega arith)) refl
 one_stays true false n m t more f h k le on is = cc

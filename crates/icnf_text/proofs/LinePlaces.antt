@@ -1,15 +1,14 @@
 -- Where on its line a reader stands.
-use Rattle.std.proofs.Common.{◌≡◌, ◌∙◌, ℕ, ◌+◌, ◌<◌, List, [], ◌∷◌, ◌++◌, length, Bool, true, false, cond, refl, ap, sym, subst, arith}
-use Rattle.std.specs.Prelude.{◌==◌, Option, None}
-use Rattle.std.proofs.lemmas.Bool.Decides.{nat_tests}
+use Rattle.std.proofs.Common.{◌≡◌, ◌∙◌, ℕ, ◌<◌, List, [], ◌∷◌, ◌++◌, length, Bool, true, false, cond, refl, ap, sym, subst, arith}
+use Rattle.std.specs.Prelude.{◌==◌}
 use Rattle.icnf_text.specs.declared.words.Word.{Word}
 use Rattle.icnf_text.specs.declared.words.Word.TheVariants as word
 use Rattle.icnf_text.specs.declared.places.Place.{Place}
 use Rattle.icnf_text.specs.declared.places.Place.TheVariants as place
 use Rattle.icnf_text.specs.Layout.{is_blank, is_comment, Token, tokens_on}
-use Rattle.icnf_text.specs.Machine.{State, extended, put_at, begin_line, margin}
+use Rattle.icnf_text.specs.Machine.{State, extended, put_at, margin}
 use Rattle.icnf_text.proofs.Tokens.{IsWord, extended_is}
-use Rattle.icnf_text.proofs.Lines.{piece, ended, worded, length_push, worded-some, last_part-at, last_part-more, ended-blank, ended-more, is_comment-blank, is_comment-more, is_comment-first, comment_some}
+use Rattle.icnf_text.proofs.Lines.{piece, ended, worded, length_push, worded-some, last_part-at, last_part-more, ended-blank, is_comment-blank, is_comment-more, is_comment-first, comment_some}
 
 abbrev pub IsPlace : Place → Word → List ℕ → Type 0
 IsPlace place.Start w line = (line ≡ []) × (w ≡ word.Nothing)
@@ -74,7 +73,9 @@ blank_is place.Comment w line b h is other = (pushed_some line b, is_comment-bla
 blank_is place.Gap w line b h is other = (
   pushed_some line b,
   subst (λ (e : List (List ℕ)). 0 < length e) (sym (ended-blank line b h)) (longer (ended line) (worded (piece line)) is.1),
-  is_comment-blank line b h ∙ is.2, last_part-at is_blank line b h, is.4,
+  is_comment-blank line b h ∙ is.2,
+  last_part-at is_blank line b h,
+  is.4,
 )
 blank_is place.Word w line b h is other = absurd (other refl)
 
@@ -82,7 +83,9 @@ pub gap_is : (w : Word) (line : List ℕ) (b : ℕ) → is_blank b ≡ true → 
 gap_is w line b h is = (
   pushed_some line b,
   subst (λ (e : List (List ℕ)). 0 < length e) (sym (ended-blank line b h ∙ ap (λ (e : List (List ℕ)). ended line ++ e) (worded-some (piece line) is.1))) (let k = length_push (ended line) (piece line) in omega arith),
-  is_comment-blank line b h ∙ is.2, last_part-at is_blank line b h, refl,
+  is_comment-blank line b h ∙ is.2,
+  last_part-at is_blank line b h,
+  refl,
 )
 
 -- the token that stands here

@@ -1,10 +1,10 @@
 -- Lines and tokens of a text with one more byte.
-use Rattle.std.proofs.Common.{◌≡◌, ◌∙◌, ℕ, zero, suc, ◌+◌, ◌-◌, ◌<◌, ◌≤◌, List, [], ◌∷◌, ◌++◌, length, take, map, Bool, true, false, cond, refl, ap, sym, subst, arith, append_assoc, append-nil}
-use Rattle.std.specs.Prelude.{nat_lt, ◌==◌, filter, count_by, slice_index}
+use Rattle.std.proofs.Common.{◌≡◌, ◌∙◌, ℕ, ◌+◌, ◌-◌, ◌<◌, List, [], ◌∷◌, ◌++◌, length, take, map, Bool, true, false, cond, refl, ap, sym, arith, append_assoc, append-nil}
+use Rattle.std.specs.Prelude.{nat_lt, ◌==◌, filter}
 use Rattle.std.specs.List.{slice_split, onto_first}
 use Rattle.std.proofs.lemmas.List.Splits.{length-slice_split}
 use Rattle.std.proofs.lemmas.Bool.{lt-ltb}
-use Rattle.icnf_text.specs.Layout.{is_blank, is_line_feed, lines_of, is_word, words_of, ended_words_of, begins_with_c, is_comment, Token, tokens_on, tokens_from, tokens_of, line_behind}
+use Rattle.icnf_text.specs.Layout.{is_blank, is_line_feed, is_word, words_of, ended_words_of, begins_with_c, is_comment, Token, tokens_on, tokens_from, tokens_of, line_behind}
 
 -- the last of some lists, and those before it
 abbrev pub last_of : {X : Type 0} → List (List X) → List X
@@ -202,6 +202,7 @@ tokens_on-append n line xs ys = by (is_comment line) n xs ys
     tagged : (n : ℕ) (xs ys : List (List ℕ)) → map (λ word. let t : Token = record { line = n; bytes = word } in t) (xs ++ ys) ≡ map (λ word. let t : Token = record { line = n; bytes = word } in t) xs ++ map (λ word. let t : Token = record { line = n; bytes = word } in t) ys
     tagged n [] ys = refl
     tagged n (x ∷ xs) ys = ap (λ (r : List Token). record { line = n; bytes = x } ∷ r) (tagged n xs ys)
+
     by : (c : Bool) (n : ℕ) (xs ys : List (List ℕ)) → cond c [] (map (λ word. let t : Token = record { line = n; bytes = word } in t) (xs ++ ys)) ≡ cond c [] (map (λ word. let t : Token = record { line = n; bytes = word } in t) xs) ++ cond c [] (map (λ word. let t : Token = record { line = n; bytes = word } in t) ys)
     by true n xs ys = refl
     by false n xs ys = tagged n xs ys
@@ -260,8 +261,8 @@ pub tokens_of-blank : (text : List ℕ) (b : ℕ) → is_line_feed b ≡ false �
 tokens_of-blank text b no_feed h =
     rowed-more text b no_feed
     ∙ ap (λ (r : List Token). closed_from 1 (rows text) ++ r)
-      (tokens_on-same (1 + length (rows text)) (last_row text) (last_row text ++ b ∷ []) (ended (last_row text ++ b ∷ [])) (is_comment-blank (last_row text) b h)
-       ∙ ap (tokens_on (1 + length (rows text)) (last_row text)) (ended-blank (last_row text) b h ∙ sym (words_are (last_row text))))
+    (tokens_on-same (1 + length (rows text)) (last_row text) (last_row text ++ b ∷ []) (ended (last_row text ++ b ∷ [])) (is_comment-blank (last_row text) b h)
+    ∙ ap (tokens_on (1 + length (rows text)) (last_row text)) (ended-blank (last_row text) b h ∙ sym (words_are (last_row text))))
     ∙ all_words text
 
 none_or_same : (n : ℕ) (line other : List ℕ) (words : List (List ℕ)) → (0 < length words → is_comment other ≡ is_comment line) → tokens_on n other words ≡ tokens_on n line words
@@ -278,9 +279,9 @@ pub tokens_of-more : (text : List ℕ) (b : ℕ) → is_line_feed b ≡ false �
 tokens_of-more text b no_feed no_blank =
     rowed-more text b no_feed
     ∙ ap (λ (r : List Token). closed_from 1 (rows text) ++ r)
-      (ap (tokens_on (1 + length (rows text)) (last_row text ++ b ∷ [])) (ended-more (last_row text) b no_blank)
-       ∙ none_or_same (1 + length (rows text)) (last_row text) (last_row text ++ b ∷ []) (ended (last_row text))
-         (λ some. is_comment-more (last_row text) b no_blank (omega arith)))
+    (ap (tokens_on (1 + length (rows text)) (last_row text ++ b ∷ [])) (ended-more (last_row text) b no_blank)
+    ∙ none_or_same (1 + length (rows text)) (last_row text) (last_row text ++ b ∷ []) (ended (last_row text))
+    (λ some. is_comment-more (last_row text) b no_blank (omega arith)))
     ∙ sym (tokens_false text)
 
 -- the number of the line on which the next byte stands

@@ -1,10 +1,10 @@
 -- Printed statements are read back.
-use Rattle.std.proofs.Common.{◌≡◌, ◌∙◌, ℕ, zero, suc, ◌+◌, ◌-◌, ◌*◌, ◌/◌, ◌%◌, ◌<◌, ◌≤◌, List, [], ◌∷◌, ◌++◌, length, map, take, drop, get_or, Bool, true, false, cond, refl, ap, sym, subst, arith, append_assoc, append-nil, inl, inr}
-use Rattle.std.specs.Prelude.{◌⊎◌, ◌&&◌, ◌==◌, not, nat_lt, nat_le, Option, Some, None, filter, count_by, sum_by, codes, decimal, All}
+use Rattle.std.proofs.Common.{◌≡◌, ◌∙◌, ℕ, ◌+◌, ◌*◌, ◌/◌, ◌%◌, ◌<◌, ◌≤◌, List, [], ◌∷◌, ◌++◌, length, map, drop, get_or, Bool, true, false, cond, refl, ap, sym, subst, arith, append_assoc, append-nil, inl}
+use Rattle.std.specs.Prelude.{◌&&◌, ◌==◌, not, nat_lt, nat_le, Option, Some, None, filter, count_by, sum_by, codes, decimal, All}
 use Rattle.std.specs.Option.{option_or}
 use Rattle.std.specs.Char.{is_ascii_digit}
 use Rattle.std.specs.List.{flat_map, slice_split, AllByRecursion}
-use Rattle.std.specs.Str.{all_ascii_digits, bytes_eq}
+use Rattle.std.specs.Str.{all_ascii_digits}
 use Rattle.std.specs.Str.Parse.{digits_value}
 use Rattle.std.proofs.lemmas.Bool.{and_parts, and_from, lt-ltb}
 use Rattle.std.proofs.lemmas.Bool.Decides.{nat_tests}
@@ -23,18 +23,17 @@ use Rattle.icnf_text.specs.declared.faults.Fault.{Fault}
 use Rattle.icnf_text.specs.declared.words.Word.TheVariants as word
 use Rattle.icnf_text.specs.declared.parser.Open.{Open}
 use Rattle.icnf_text.specs.declared.parser.Open.TheVariants as open_as
-use Rattle.icnf_text.specs.Judgement.{Header, Found, header_of, is_behind, set_of, is_clause, statements_of, right_after, wrong_after, open_of, statements_under, wrong_under, wrong_end, statements, wrong}
-use Rattle.icnf_text.specs.Machine.{Parse, Taken, goes_on, stops, begun, begun_at, mark_at, lit_code, literal_taken, pushed_unless, closed_unless, zero_taken, token_taken, statement_as, start}
-use Rattle.icnf_text.proofs.Tokens.{IsWord, IsNumber}
+use Rattle.icnf_text.specs.Judgement.{Header, Found, header_of, is_behind, set_of, is_clause, statements_of, wrong_after, open_of, statements_under, wrong_under, wrong_end, statements, wrong}
+use Rattle.icnf_text.specs.Machine.{Parse, Taken, goes_on, stops, begun, begun_at, mark_at, lit_code, literal_taken, pushed_unless, closed_unless, token_taken, statement_as, start}
+use Rattle.icnf_text.proofs.Tokens.{IsWord}
 use Rattle.icnf_text.proofs.TokenKinds.{lit_code-within}
 use Rattle.icnf_text.proofs.Lines.{closed_from, tokens_from-push}
 use Rattle.icnf_text.proofs.SortedSets.{set_is}
 use Rattle.icnf_text.proofs.Grammar.{right_all}
 use Rattle.icnf_text.proofs.StatementStates.{Holds, IsOpen, Takes, token_takes}
-use Rattle.icnf_text.proofs.HeaderStates.{knows_nothing}
 use Rattle.icnf_text.proofs.Truth.{short_statements, short_wrong_end}
-use Rattle.icnf_text.specs.Number.{is_zero, is_mark, is_minus, is_literal, digits_of, variable_of, code_of}
-use Rattle.icnf_text.specs.Printed.{number_text, lits_text, statement_text, printed, lits_in, IsWithin}
+use Rattle.icnf_text.specs.Number.{is_minus, is_literal, variable_of, code_of}
+use Rattle.icnf_text.specs.Printed.{number_text, statement_text, printed, lits_in, IsWithin}
 
 -- the number of a literal
 own : IsNumeralModel (λ ds. all_ascii_digits ds ≡ true) (digits_value 10)
@@ -97,6 +96,7 @@ ink_digits (d ∷ ds) h = (ink d (and_parts _ _ h).0, ink_digits ds (and_parts _
   where
     low : (d : ℕ) → is_ascii_digit d ≡ true → (48 ≤ d) × (d ≤ 57)
     low d h = grind (arith, nat_tests)
+
     ink : (d : ℕ) → is_ascii_digit d ≡ true → IsInk d
     ink d h = let r = low d h in (omega (arith, r.0), omega (arith, r.1), λ is. omega (arith, r.1))
 
@@ -158,6 +158,7 @@ no_c (lit ∷ lits) h = by (number_text lit) (number_some lit h.0) (ink lit h.0)
   where
     other : (b : ℕ) → (b ≡ 99 → ⊥) → (b == 99) ≡ false
     other b h = grind (arith, nat_tests)
+
     by : (bs : List ℕ) → 0 < length bs → AllByRecursion IsInk bs → (get_or bs 0 0 == 99) ≡ false
     by [] some h = absurd (omega arith)
     by (b ∷ bs) some h = other b h.0.2
@@ -273,9 +274,9 @@ literal_goes lit n parse next tokens out is h begin low =
     let t : Token = record { line = n; bytes = number_text lit } in
     let takes = token_takes (word.Number (is_negative lit) (variable lit)) parse tokens t out (number_word lit is) (number_some lit is) h in
     let taken : token_taken parse n (word.Number (is_negative lit) (variable lit)) ≡ goes_on (record next { lits = next.lits ++ lit ∷ []; literals = next.literals + 1 }) =
-        ap (λ (o : Option ℕ). literal_taken o parse n) (code_is lit is)
-        ∙ ap (λ (b : Taken). pushed_unless b.reason b.parse lit) begin
-        ∙ ap (λ c. cond c (stops next reason.TooMany) (goes_on (record next { lits = next.lits ++ lit ∷ []; literals = next.literals + 1 }))) (few next.literals 33554432 low) in
+    ap (λ (o : Option ℕ). literal_taken o parse n) (code_is lit is)
+    ∙ ap (λ (b : Taken). pushed_unless b.reason b.parse lit) begin
+    ∙ ap (λ c. cond c (stops next reason.TooMany) (goes_on (record next { lits = next.lits ++ lit ∷ []; literals = next.literals + 1 }))) (few next.literals 33554432 low) in
     (subst (λ (k : Taken). Takes k tokens t out) taken takes).goes refl
 
 -- the state behind these literals
@@ -294,10 +295,10 @@ record Goes (parse : Parse) (n : ℕ) (lits : List ℕ) (tokens : List Token) (o
 
 lits_go : (lits : List ℕ) (n : ℕ) (parse : Parse) (tokens : List Token) (out : List Numbered) → AllByRecursion IsLit lits → Holds parse tokens out → ((p : Parse) → p.opened ≡ parse.opened → begun p n ≡ goes_on p) → parse.literals + length lits ≤ 33554432 → Goes parse n lits tokens out
 lits_go [] n parse tokens out all h begins low = record {
-    next = parse;
-    holds = subst (λ (ts : List Token). Holds parse ts out) (sym (append-nil tokens)) h;
-    went = record { opened = refl; line = refl; lits_are = sym (append-nil parse.lits); clauses = refl; cubes = refl; literals = omega arith };
-  }
+  next = parse;
+  holds = subst (λ (ts : List Token). Holds parse ts out) (sym (append-nil tokens)) h;
+  went = record { opened = refl; line = refl; lits_are = sym (append-nil parse.lits); clauses = refl; cubes = refl; literals = omega arith };
+}
 lits_go (lit ∷ lits) n parse tokens out all h begins low =
     let first : Parse = record parse { lits = parse.lits ++ lit ∷ []; literals = parse.literals + 1 } in
     let one : Holds first (tokens ++ tagged n (number_text lit ∷ [])) out = subst (Holds first (tokens ++ tagged n (number_text lit ∷ []))) (append-nil out) (literal_goes lit n parse parse tokens out all.0 h (begins parse refl) (omega arith)) in
@@ -360,10 +361,10 @@ done_by : (st : Statement) (o : Open) (n : ℕ) (parse first next : Parse) (toke
 done_by st o n parse first next tokens from out more lits h went open_is begins lits_are tokens_are st_is line clauses cubes literals =
     let closed = closes n next next (tokens ++ tagged n (map number_text more)) out h begins in
     let given : record { line = next.start; statement = statement_as next.opened (set_of next.lits) } ≡ record { line = n; statement = st } =
-        ap (λ l. let k : Numbered = record { line = l; statement = statement_as next.opened (set_of next.lits) } in k) (went.line ∙ line)
-        ∙ ap (λ (q : Open). let k : Numbered = record { line = n; statement = statement_as q (set_of next.lits) } in k) (went.opened ∙ open_is)
-        ∙ ap (λ (l : List ℕ). let k : Numbered = record { line = n; statement = statement_as o (set_of l) } in k) lits_are
-        ∙ ap (λ (q : Statement). let k : Numbered = record { line = n; statement = q } in k) st_is in record {
+    ap (λ l. let k : Numbered = record { line = l; statement = statement_as next.opened (set_of next.lits) } in k) (went.line ∙ line)
+    ∙ ap (λ (q : Open). let k : Numbered = record { line = n; statement = statement_as q (set_of next.lits) } in k) (went.opened ∙ open_is)
+    ∙ ap (λ (l : List ℕ). let k : Numbered = record { line = n; statement = statement_as o (set_of l) } in k) lits_are
+    ∙ ap (λ (q : Statement). let k : Numbered = record { line = n; statement = q } in k) st_is in record {
       next = record next { opened = open_as.Nothing; lits = [] };
       holds = subst (λ (k : Numbered). Holds (record next { opened = open_as.Nothing; lits = [] }) (from ++ tagged n (statement_words st)) (out ++ k ∷ [])) given
           (subst (λ (ts : List Token). Holds (record next { opened = open_as.Nothing; lits = [] }) ts (out ++ record { line = next.start; statement = statement_as next.opened (set_of next.lits) } ∷ [])) tokens_are closed);
@@ -393,8 +394,8 @@ clause_done (lit ∷ lits) n parse tokens out set h e few_clauses few_lits =
     done_by (Clause (lit ∷ lits)) open_as.Clause n parse first rest.next (tokens ++ tagged n (number_text lit ∷ [])) tokens out lits (lit ∷ lits) rest.holds rest.went refl (clause_goes_on n rest.next rest.went.opened)
     (rest.went.lits_are ∙ ap (λ (l : List ℕ). (l ++ lit ∷ []) ++ lits) (no_lits parse tokens out h e).0)
     (append_assoc (tokens ++ tagged n (number_text lit ∷ [])) (tagged n (map number_text lits)) (tagged n (codes "0" ∷ []))
-     ∙ append_assoc tokens (tagged n (number_text lit ∷ [])) (tagged n (map number_text lits) ++ tagged n (codes "0" ∷ []))
-     ∙ ap (λ (r : List Token). tokens ++ record { line = n; bytes = number_text lit } ∷ r) (sym (tagged-append n (map number_text lits) (codes "0" ∷ []))))
+    ∙ append_assoc tokens (tagged n (number_text lit ∷ [])) (tagged n (map number_text lits) ++ tagged n (codes "0" ∷ []))
+    ∙ ap (λ (r : List Token). tokens ++ record { line = n; bytes = number_text lit } ∷ r) (sym (tagged-append n (map number_text lits) (codes "0" ∷ []))))
     (ap Clause (same_set (lit ∷ lits) set)) refl rest.went.clauses (let k = rest.went.cubes in omega arith) (let k = rest.went.literals in omega arith)
 
 cube_done : (lits : List ℕ) (n : ℕ) (parse : Parse) (tokens : List Token) (out : List Numbered) → IsLitSet lits → Holds parse tokens out → parse.opened ≡ open_as.Nothing → parse.cubes < 1048576 → parse.literals + length lits ≤ 33554432 → Done parse (Cube lits) n tokens out
@@ -408,8 +409,8 @@ cube_done lits n parse tokens out set h e few_cubes few_lits =
     done_by (Cube lits) open_as.Cube n parse begin rest.next (tokens ++ t ∷ []) tokens out lits lits rest.holds rest.went refl (cube_goes_on n rest.next rest.went.opened)
     (rest.went.lits_are ∙ ap (λ (l : List ℕ). l ++ lits) (no_lits parse tokens out h e).0)
     (append_assoc (tokens ++ t ∷ []) (tagged n (map number_text lits)) (tagged n (codes "0" ∷ []))
-     ∙ append_assoc tokens (t ∷ []) (tagged n (map number_text lits) ++ tagged n (codes "0" ∷ []))
-     ∙ ap (λ (r : List Token). tokens ++ t ∷ r) (sym (tagged-append n (map number_text lits) (codes "0" ∷ []))))
+    ∙ append_assoc tokens (t ∷ []) (tagged n (map number_text lits) ++ tagged n (codes "0" ∷ []))
+    ∙ ap (λ (r : List Token). tokens ++ t ∷ r) (sym (tagged-append n (map number_text lits) (codes "0" ∷ []))))
     (ap Cube (same_set lits set)) refl (let k = rest.went.clauses in omega arith) rest.went.cubes rest.went.literals
 
 statement_done : (st : Statement) (n : ℕ) (parse : Parse) (tokens : List Token) (out : List Numbered) → IsLitSet (lits_in st) → Holds parse tokens out → parse.opened ≡ open_as.Nothing →
@@ -426,17 +427,17 @@ record AllDone (n : ℕ) (list : List Statement) (tokens : List Token) (out : Li
 all_done : (list : List Statement) (n : ℕ) (parse : Parse) (tokens : List Token) (out : List Numbered) → AreStatements list → Holds parse tokens out → parse.opened ≡ open_as.Nothing →
     parse.clauses + count_by is_clause list ≤ 16777216 → parse.cubes + count_by (λ st. not (is_clause st)) list ≤ 1048576 → parse.literals + sum_by (λ st. length (lits_in st)) list ≤ 33554432 → AllDone n list tokens out
 all_done [] n parse tokens out sets h e few_clauses few_cubes few_lits = record {
-    right = ap (wrong_after []) (append-nil tokens) ∙ h.right;
-    none_open = ap open_of (append-nil tokens) ∙ (no_lits parse tokens out h e).1;
-    given = ap statements_of (append-nil tokens) ∙ sym h.given ∙ sym (append-nil out);
-  }
+  right = ap (wrong_after []) (append-nil tokens) ∙ h.right;
+  none_open = ap open_of (append-nil tokens) ∙ (no_lits parse tokens out h e).1;
+  given = ap statements_of (append-nil tokens) ∙ sym h.given ∙ sym (append-nil out);
+}
 all_done (st ∷ sts) n parse tokens out sets h e few_clauses few_cubes few_lits =
     let some_clauses : count_by is_clause (st ∷ sts) ≡ cond (is_clause st) 1 0 + count_by is_clause sts = sum_by-cons (λ s. cond (is_clause s) 1 0) st sts in
     let some_cubes : count_by (λ s. not (is_clause s)) (st ∷ sts) ≡ cond (not (is_clause st)) 1 0 + count_by (λ s. not (is_clause s)) sts = sum_by-cons (λ s. cond (not (is_clause s)) 1 0) st sts in
     let some_lits : sum_by (λ s. length (lits_in s)) (st ∷ sts) ≡ length (lits_in st) + sum_by (λ s. length (lits_in s)) sts = sum_by-cons (λ s. length (lits_in s)) st sts in
     let one = statement_done st n parse tokens out sets.0 h e (omega arith) (omega arith) (omega arith) in
     let rest = all_done sts (n + 1) one.next (tokens ++ tagged n (statement_words st)) (out ++ record { line = n; statement = st } ∷ []) sets.1 one.holds one.opened
-        (let k = one.clauses in omega arith) (let k = one.cubes in omega arith) (let k = one.literals in omega arith) in
+    (let k = one.clauses in omega arith) (let k = one.cubes in omega arith) (let k = one.literals in omega arith) in
     let assoc = append_assoc tokens (tagged n (statement_words st)) (body (n + 1) sts) in record {
       right = ap (wrong_after []) (sym assoc) ∙ rest.right;
       none_open = ap open_of (sym assoc) ∙ rest.none_open;
@@ -453,13 +454,15 @@ read_back list text sets within is = subst (λ (t : List ℕ). (wrong t true ≡
     done : AllDone 2 list [] []
     done = all_done list 2 start.parse [] [] sets (record { right = refl; opened = (refl, refl); clauses = refl; cubes = refl; literals = refl; given = refl }) refl
         (let k = within.clauses in omega arith) (let k = within.cubes in omega arith) (let k = within.literals in omega arith)
+
     found : header_of (line_behind (printed list)) (tokens_of (printed list) true) ≡ Found (body 2 list)
     found = ap (header_of (line_behind (printed list))) (printed_tokens list sets) ∙ printed_header (line_behind (printed list)) list
+
     printed_back : (wrong (printed list) true ≡ None) × (map (λ (k : Numbered). k.statement) (statements (printed list) true) ≡ list)
     printed_back = (
       short_wrong_end (printed list) within.bytes ∙ ap (λ (h : Header). option_or (wrong_under h) (wrong_end (last_line (printed list)) h)) found
-      ∙ ap (λ (o : Option Fault). option_or o (wrong_end (last_line (printed list)) (Found (body 2 list)))) done.right
-      ∙ ap (λ (ts : List Token). cond (length ts == 0) None (Some (record { line = last_line (printed list); reason = reason.Unfinished }))) done.none_open,
+          ∙ ap (λ (o : Option Fault). option_or o (wrong_end (last_line (printed list)) (Found (body 2 list)))) done.right
+          ∙ ap (λ (ts : List Token). cond (length ts == 0) None (Some (record { line = last_line (printed list); reason = reason.Unfinished }))) done.none_open,
       ap (map (λ (k : Numbered). k.statement)) (short_statements (printed list) true within.bytes ∙ ap statements_under found ∙ ap statements_of (right_all [] (body 2 list) done.right) ∙ done.given)
-      ∙ unnumbered 2 list,
+          ∙ unnumbered 2 list,
     )

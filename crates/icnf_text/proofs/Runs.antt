@@ -1,5 +1,5 @@
 -- Runs of a reader over a text, in any pieces.
-use Rattle.std.proofs.Common.{◌≡◌, ◌∙◌, ℕ, ◌+◌, ◌<◌, List, [], ◌∷◌, ◌++◌, length, take, get_or, refl, ap, sym, subst, append_assoc, append-nil}
+use Rattle.std.proofs.Common.{◌≡◌, ◌∙◌, ℕ, ◌+◌, ◌<◌, List, [], ◌∷◌, ◌++◌, length, take, get_or, refl, ap, sym, append_assoc, append-nil}
 use Rattle.std.specs.Prelude.{true, false, Option, Some}
 use Rattle.std.proofs.lemmas.List.{take_more}
 use Rattle.icnf_text.specs.declared.statements.Numbered.{Numbered}

@@ -1,7 +1,7 @@
 -- Sets of literals in ascending order.
-use Rattle.std.proofs.Common.{◌≡◌, ◌∙◌, ℕ, ◌+◌, ◌<◌, ◌≤◌, List, [], ◌∷◌, length, Bool, true, false, cond, refl, ap, sym, subst, inl, inr, arith, get_or, zero, suc}
-use Rattle.std.specs.Prelude.{◌⊎◌, ◌↔◌, nat_lt, ◌==◌, ◌&&◌, Contains, IsTrue, All}
-use Rattle.std.proofs.lemmas.Bool.{and_parts, and_from, ltb-true, lt-ltb, cases_lt, cases_eq}
+use Rattle.std.proofs.Common.{◌≡◌, ℕ, ◌<◌, ◌≤◌, List, [], ◌∷◌, true, false, refl, sym, subst, inl, inr, arith, suc}
+use Rattle.std.specs.Prelude.{◌⊎◌, ◌↔◌, nat_lt, ◌==◌, Contains, IsTrue, All}
+use Rattle.std.proofs.lemmas.Bool.{and_parts, and_from, ltb-true, lt-ltb, cases_lt}
 use Rattle.std.proofs.lemmas.Bool.Decides.{nat_tests}
 use Rattle.sat_base.specs.Lit.{ascends_above, is_ascending, IsLitSet}
 use Rattle.sat_base.proofs.Members.{Contains-here, Contains-there, Contains-cases, All-from_members}
@@ -102,10 +102,10 @@ behind bound x y xs ys same up all z has =
 first_same : (x y : ℕ) (xs ys : List ℕ) → IsTrue (ascends_above x xs) → IsTrue (ascends_above y ys) → HasAll (y ∷ ys) (x ∷ xs) → HasAll (x ∷ xs) (y ∷ ys) → x ≡ y
 first_same x y xs ys up_x up_y to from =
     elim (Contains-cases y x ys (to x (Contains-here x xs))) as (λ _. x ≡ y) [
-      inl is ↦ sym is
-    | inr x_in ↦ elim (Contains-cases x y xs (from y (Contains-here y ys))) as (λ _. x ≡ y) [
-        inl is ↦ is
-      | inr y_in ↦ absurd (let h = above x xs y up_x y_in in let k = above y ys x up_y x_in in omega arith)
+      | inl is ↦ sym is
+      | inr x_in ↦ elim (Contains-cases x y xs (from y (Contains-here y ys))) as (λ _. x ≡ y) [
+        | inl is ↦ is
+        | inr y_in ↦ absurd (let h = above x xs y up_x y_in in let k = above y ys x up_y x_in in omega arith)
       ]
     ]
 

@@ -1,11 +1,9 @@
 -- What a reader knows of the tokens of statements, with one more token.
-use Rattle.std.proofs.Common.{◌≡◌, ◌∙◌, ℕ, zero, suc, ◌+◌, ◌-◌, ◌*◌, ◌<◌, ◌≤◌, List, [], ◌∷◌, ◌++◌, length, map, Bool, true, false, cond, refl, ap, sym, subst, arith, append_assoc, append-nil, inl, inr}
-use Rattle.std.specs.Prelude.{◌⊎◌, ◌&&◌, ◌||◌, ◌==◌, not, nat_lt, nat_le, Option, Some, None, is_some, filter, count_by, codes}
-use Rattle.std.specs.Option.{option_or, option_map}
-use Rattle.std.specs.Str.{bytes_eq}
+use Rattle.std.proofs.Common.{◌≡◌, ◌∙◌, ℕ, ◌+◌, ◌<◌, ◌≤◌, List, [], ◌∷◌, ◌++◌, length, Bool, true, false, cond, refl, ap, sym, subst, arith, append-nil, inl, inr}
+use Rattle.std.specs.Prelude.{◌⊎◌, ◌&&◌, ◌==◌, not, nat_le, Option, Some, None}
+use Rattle.std.specs.Option.{option_or}
 use Rattle.std.proofs.lemmas.Bool.{cases_lt}
 use Rattle.std.proofs.lemmas.Bool.Decides.{nat_tests}
-use Rattle.icnf_text.specs.declared.statements.Statement.{Statement}
 use Rattle.icnf_text.specs.declared.statements.Statement.TheVariants.{Clause, Cube}
 use Rattle.icnf_text.specs.declared.statements.Numbered.{Numbered}
 use Rattle.icnf_text.specs.declared.faults.Reason.{Reason}
@@ -17,11 +15,11 @@ use Rattle.icnf_text.specs.declared.parser.Open.{Open}
 use Rattle.icnf_text.specs.declared.parser.Open.TheVariants as open_as
 use Rattle.icnf_text.specs.Layout.{Token}
 use Rattle.icnf_text.specs.Number.{is_zero, is_mark, is_literal, code_of, variable_of, is_variable}
-use Rattle.icnf_text.specs.Judgement.{open_of, set_of, lits_of, begins_cube, first_line, statement_of, statements_of, is_clause, count_clauses, count_cubes, count_literals, is_begin, is_one_too_many, reason_of, right_after, fault_on, wrong_after}
+use Rattle.icnf_text.specs.Judgement.{open_of, set_of, lits_of, begins_cube, first_line, statement_of, statements_of, is_clause, count_clauses, count_cubes, count_literals, is_begin, reason_of, fault_on, wrong_after}
 use Rattle.icnf_text.specs.Machine.{Parse, Taken, goes_on, stops, mark_at, begun_at, begun, lit_code, pushed_unless, literal_taken, statement_as, closed_unless, zero_taken, token_taken}
-use Rattle.icnf_text.proofs.Tokens.{IsWord, IsNumber, IsCapped}
+use Rattle.icnf_text.proofs.Tokens.{IsWord, IsNumber}
 use Rattle.icnf_text.proofs.TokenKinds.{IsOther, other_minus, other_p, other_front, other_strange, literal_differs, lit_code-within, lit_code-over, variable_within, variable_over}
-use Rattle.icnf_text.proofs.Grammar.{open_of-more, open_of-zero, statements_of-more, statements_of-zero, lits_of-push, count_by-push, wrong_after-push, right_all}
+use Rattle.icnf_text.proofs.Grammar.{open_of-more, open_of-zero, statements_of-more, statements_of-zero, lits_of-push, count_by-push, wrong_after-push}
 
 -- how many statements of each kind are open
 abbrev open_clause : Open → ℕ
@@ -165,16 +163,16 @@ record Begins (taken : Taken) (tokens : List Token) (t : Token) (out : List Numb
 begin_new : (parse : Parse) (tokens : List Token) (t : Token) (out : List Numbered) → Holds parse tokens out → open_of tokens ≡ [] → parse.lits ≡ [] → parse.opened ≡ open_as.Nothing → is_mark t.bytes ≡ false →
     HasBegun (record parse { opened = open_as.Clause; start = t.line; clauses = parse.clauses + 1 }) tokens t out
 begin_new parse tokens t out h none no_lits is no_mark = record {
-    right = h.right;
-    some = tt;
-    cube = ap (λ (o : List Token). begins_cube (o ++ t ∷ [])) none ∙ no_mark;
-    line = ap (λ (o : List Token). first_line (o ++ t ∷ [])) none;
-    lits = no_lits ∙ ap lits_of (sym none);
-    clauses = ap (λ k. k + 1) (h.clauses ∙ ap (λ o. count_clauses (statements_of tokens) + open_clause o) is) ∙ by (count_clauses (statements_of tokens));
-    cubes = h.cubes ∙ ap (λ o. count_cubes (statements_of tokens) + open_cube o) is;
-    literals = h.literals;
-    given = h.given;
-  }
+  right = h.right;
+  some = tt;
+  cube = ap (λ (o : List Token). begins_cube (o ++ t ∷ [])) none ∙ no_mark;
+  line = ap (λ (o : List Token). first_line (o ++ t ∷ [])) none;
+  lits = no_lits ∙ ap lits_of (sym none);
+  clauses = ap (λ k. k + 1) (h.clauses ∙ ap (λ o. count_clauses (statements_of tokens) + open_clause o) is) ∙ by (count_clauses (statements_of tokens));
+  cubes = h.cubes ∙ ap (λ o. count_cubes (statements_of tokens) + open_cube o) is;
+  literals = h.literals;
+  given = h.given;
+}
   where
     by : (k : ℕ) → (k + 0) + 1 ≡ k + 1
     by k = omega arith
@@ -182,13 +180,13 @@ begin_new parse tokens t out h none no_lits is no_mark = record {
 begin_by : (large : Bool) (parse : Parse) (tokens : List Token) (t : Token) (out : List Numbered) → Holds parse tokens out → open_of tokens ≡ [] → parse.lits ≡ [] → parse.opened ≡ open_as.Nothing → is_mark t.bytes ≡ false → nat_le 16777216 parse.clauses ≡ large → nat_le 16777216 (count_clauses (statements_of tokens)) ≡ large →
     Begins (cond large (stops parse reason.TooMany) (goes_on (record parse { opened = open_as.Clause; start = t.line; clauses = parse.clauses + 1 }))) tokens t out
 begin_by true parse tokens t out h none no_lits is no_mark k k' = record {
-    why = sym (ap (λ b. cond b (Some reason.TooMany) None) (ap (λ b. b && nat_le 16777216 (count_clauses (statements_of tokens))) (nothing_open tokens none) ∙ k'));
-    goes = λ q. cc;
-  }
+  why = sym (ap (λ b. cond b (Some reason.TooMany) None) (ap (λ b. b && nat_le 16777216 (count_clauses (statements_of tokens))) (nothing_open tokens none) ∙ k'));
+  goes = λ q. cc;
+}
 begin_by false parse tokens t out h none no_lits is no_mark k k' = record {
-    why = sym (ap (λ b. cond b (Some reason.TooMany) None) (ap (λ b. b && nat_le 16777216 (count_clauses (statements_of tokens))) (nothing_open tokens none) ∙ k'));
-    goes = λ _. begin_new parse tokens t out h none no_lits is no_mark;
-  }
+  why = sym (ap (λ b. cond b (Some reason.TooMany) None) (ap (λ b. b && nat_le 16777216 (count_clauses (statements_of tokens))) (nothing_open tokens none) ∙ k'));
+  goes = λ _. begin_new parse tokens t out h none no_lits is no_mark;
+}
 
 first_more : (tokens : List Token) (t : Token) → 0 < length tokens → (begins_cube (tokens ++ t ∷ []) ≡ begins_cube tokens) × (first_line (tokens ++ t ∷ []) ≡ first_line tokens)
 first_more [] t some = absurd (omega arith)
@@ -200,8 +198,15 @@ goes_by parse tokens t out cube h some is at =
     let same = first_more (open_of tokens) t at.0 in record {
       why = sym (ap (λ b. cond (b && nat_le 16777216 (count_clauses (statements_of tokens))) (Some reason.TooMany) None) (some_open tokens at.0));
       goes = λ _. record {
-        right = h.right; some = some; cube = same.0 ∙ at.1 ∙ sym is; line = same.1 ∙ at.2; lits = at.3;
-        clauses = h.clauses; cubes = h.cubes; literals = h.literals; given = h.given;
+        right = h.right;
+        some = some;
+        cube = same.0 ∙ at.1 ∙ sym is;
+        line = same.1 ∙ at.2;
+        lits = at.3;
+        clauses = h.clauses;
+        cubes = h.cubes;
+        literals = h.literals;
+        given = h.given;
       };
     }
 
@@ -243,8 +248,8 @@ zero_new : (parse : Parse) (tokens : List Token) (t : Token) (out : List Numbere
 zero_new parse tokens t out h ends no_literal right =
     let s : Numbered = record { line = parse.start; statement = statement_as parse.opened (set_of parse.lits) } in
     let is : s ≡ statement_of (open_of tokens ++ t ∷ []) =
-        statement_by parse.opened parse.start parse.lits (first_line (open_of tokens ++ t ∷ [])) (begins_cube (open_of tokens ++ t ∷ [])) (lits_of (open_of tokens ++ t ∷ [])) h.some h.cube h.line
-        (h.lits ∙ sym (lits_of-push (open_of tokens) t false no_literal)) in
+    statement_by parse.opened parse.start parse.lits (first_line (open_of tokens ++ t ∷ [])) (begins_cube (open_of tokens ++ t ∷ [])) (lits_of (open_of tokens ++ t ∷ [])) h.some h.cube h.line
+    (h.lits ∙ sym (lits_of-push (open_of tokens) t false no_literal)) in
     let all : statements_of (tokens ++ t ∷ []) ≡ statements_of tokens ++ s ∷ [] = statements_of-zero tokens t ends ∙ ap (λ (x : Numbered). statements_of tokens ++ x ∷ []) (sym is) in
     record {
       right = right_more tokens t h.right right;
@@ -338,7 +343,7 @@ pushed_by : (taken : Taken) (why : Option Reason) (tokens : List Token) (t : Tok
 pushed_by taken (Some r) tokens t out code is h literal =
     stopped taken.parse r tokens t out
     (reason-literal tokens t.bytes (one_clause_more tokens) (nat_le 33554432 (count_literals tokens)) literal.literal literal.no_zero literal.no_mark literal.low refl refl
-     ∙ some_more (one_clause_more tokens) r _ (sym h.why ∙ is))
+    ∙ some_more (one_clause_more tokens) r _ (sym h.why ∙ is))
 pushed_by taken None tokens t out code is h literal =
     push_by (nat_le 33554432 taken.parse.literals) taken.parse tokens t out code (h.goes is) literal (no_more (one_clause_more tokens) (sym h.why ∙ is)) refl
 

@@ -1,6 +1,6 @@
 -- What a reader keeps of a whole token, and what the token is.
-use Rattle.std.proofs.Common.{◌≡◌, ◌∙◌, ℕ, zero, suc, ◌+◌, ◌-◌, ◌*◌, ◌<◌, ◌≤◌, List, [], ◌∷◌, ◌++◌, length, take, get_or, Bool, true, false, cond, refl, ap, sym, subst, inl, inr, arith}
-use Rattle.std.specs.Prelude.{◌⊎◌, ◌≢◌, nat_lt, nat_le, ◌==◌, ◌&&◌, not, codes, Option, Some, None}
+use Rattle.std.proofs.Common.{◌≡◌, ◌∙◌, ℕ, ◌+◌, ◌-◌, ◌*◌, ◌<◌, ◌≤◌, List, [], ◌∷◌, length, get_or, Bool, true, false, cond, refl, ap, sym, subst, inl, inr, arith}
+use Rattle.std.specs.Prelude.{nat_lt, nat_le, ◌==◌, ◌&&◌, codes, Option, Some, None}
 use Rattle.std.specs.Char.{is_ascii_digit, digit_value}
 use Rattle.std.specs.Str.{all_ascii_digits, bytes_eq}
 use Rattle.std.specs.Str.Parse.{digits_value}
@@ -12,7 +12,7 @@ use Rattle.icnf_text.specs.declared.words.Word.{Word}
 use Rattle.icnf_text.specs.declared.words.Word.TheVariants as word
 use Rattle.icnf_text.specs.Number.{is_zero, is_mark, is_minus, is_literal, digits_of, variable_of, code_of, is_variable}
 use Rattle.icnf_text.specs.Machine.{is_p, is_inccnf, lit_code}
-use Rattle.icnf_text.proofs.Tokens.{IsWord, IsStrange, IsNumber, IsCapped, is_front, inccnf, differs, not_true, front_whole, front_not_literal}
+use Rattle.icnf_text.proofs.Tokens.{IsWord, IsStrange, IsNumber, IsCapped, is_front, inccnf, differs, front_whole, front_not_literal}
 
 -- neither the end of a statement nor a literal nor the mark of a cube
 pub record IsOther (bytes : List ℕ) : Type 0 where
@@ -31,10 +31,10 @@ front_other bytes other h no_front is = let k : is_front other inccnf ≡ true =
 
 pub other_front : (bytes : List ℕ) → is_front bytes inccnf ≡ true → 0 < length bytes → IsOther bytes
 other_front bytes h some = record {
-    not_zero = differs bytes (48 ∷ []) (front_other bytes (48 ∷ []) h refl);
-    not_literal = front_not_literal bytes some h;
-    not_mark = differs bytes (97 ∷ []) (front_other bytes (97 ∷ []) h refl);
-  }
+  not_zero = differs bytes (48 ∷ []) (front_other bytes (48 ∷ []) h refl);
+  not_literal = front_not_literal bytes some h;
+  not_mark = differs bytes (97 ∷ []) (front_other bytes (97 ∷ []) h refl);
+}
 
 pub other_strange : (bytes : List ℕ) → IsStrange bytes → IsOther bytes
 other_strange bytes is = record { not_zero = is.not_zero; not_literal = is.dead.not_literal; not_mark = is.not_mark }
@@ -65,8 +65,10 @@ lit_code-within negative v bytes is low = by (same v (variable_of bytes) low is.
     same : (v n : ℕ) → v ≤ 8388607 → IsCapped v n → v ≡ n
     same v n low (inl at) = at.1
     same v n low (inr over) = absurd (let k = over.0 in omega arith)
+
     code : (negative minus : Bool) (v n : ℕ) → minus ≡ negative → v ≡ n → 0 < v → v ≤ 8388607 → lit_code negative v ≡ Some (2 * n + cond minus 1 0)
     code negative minus v n sign is some low = rw (and_from _ _ (lt-ltb 0 v some) (le-leb v 8388607 low)) (ap Some (ap (λ k. 2 * k + cond negative 1 0) is ∙ ap (λ s. 2 * n + cond s 1 0) (sym sign)))
+
     by : v ≡ variable_of bytes → 0 < variable_of bytes → is_minus bytes ≡ negative → lit_code negative v ≡ Some (code_of bytes)
     by e some sign = code negative (is_minus bytes) v (variable_of bytes) sign e (omega arith) low
 
@@ -75,6 +77,7 @@ lit_code-over negative v over = by (nat_lt 0 v) (nat_le v 8388607) (large v over
   where
     large : (v : ℕ) → 8388607 < v → nat_le v 8388607 ≡ false
     large v h = grind (arith, nat_tests)
+
     by : (a b : Bool) → b ≡ false → ◌≡◌ {A = Option ℕ} (cond (a && b) (Some (2 * v + cond negative 1 0)) None) None
     by true true h = cc
     by true false h = refl

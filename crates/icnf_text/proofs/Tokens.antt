@@ -1,6 +1,6 @@
 -- What a reader keeps of a token's bytes tells what the token is.
-use Rattle.std.proofs.Common.{◌≡◌, ◌∙◌, ℕ, zero, suc, ◌+◌, ◌-◌, ◌*◌, ◌<◌, ◌≤◌, List, [], ◌∷◌, ◌++◌, length, take, drop, get_or, Bool, true, false, cond, refl, ap, sym, subst, inl, inr, arith, zero-add}
-use Rattle.std.specs.Prelude.{◌⊎◌, ◌≢◌, nat_lt, nat_le, ◌==◌, ◌&&◌, codes, slice_index}
+use Rattle.std.proofs.Common.{◌≡◌, ◌∙◌, ℕ, zero, suc, ◌+◌, ◌-◌, ◌*◌, ◌<◌, ◌≤◌, List, [], ◌∷◌, ◌++◌, length, drop, Bool, true, false, cond, refl, ap, sym, subst, inl, inr, arith, zero-add}
+use Rattle.std.specs.Prelude.{◌⊎◌, ◌≢◌, nat_lt, ◌==◌, ◌&&◌, codes, slice_index}
 use Rattle.std.specs.Char.{is_ascii_digit, digit_value}
 use Rattle.std.specs.Str.{all_ascii_digits, bytes_eq}
 use Rattle.std.specs.Str.Parse.{digits_value}
@@ -12,7 +12,7 @@ use Rattle.std.proofs.lemmas.Slice.Eq.{bytes_eq-Decides}
 use Rattle.icnf_text.specs.declared.words.Word.{Word}
 use Rattle.icnf_text.specs.declared.words.Word.TheVariants as word
 use Rattle.icnf_text.specs.Number.{is_zero, is_mark, is_minus, is_literal, digits_of, variable_of}
-use Rattle.icnf_text.specs.Machine.{first_byte, first_digit, next_digit, next_letter, extended, is_p, is_inccnf}
+use Rattle.icnf_text.specs.Machine.{first_byte, first_digit, next_digit, next_letter, extended}
 
 pub not_true : (b : Bool) → (b ≡ true → ⊥) → b ≡ false
 not_true true h = absurd (h refl)
@@ -169,11 +169,11 @@ not_short xs b some is = let h = length_push xs b in let k = ap length is in ome
 
 strange : (xs : List ℕ) (b : ℕ) → 0 < length xs → is_literal (xs ++ b ∷ []) ≡ false → is_front (xs ++ b ∷ []) inccnf ≡ false → IsStrange (xs ++ b ∷ [])
 strange xs b some literal front = record {
-    dead = record { some = let h = length_push xs b in omega arith; not_minus = not_short xs b some; not_literal = literal; not_front = front };
-    not_zero = two xs b 48 some;
-    not_mark = two xs b 97 some;
-    not_p = two xs b 112 some;
-  }
+  dead = record { some = let h = length_push xs b in omega arith; not_minus = not_short xs b some; not_literal = literal; not_front = front };
+  not_zero = two xs b 48 some;
+  not_mark = two xs b 97 some;
+  not_p = two xs b 112 some;
+}
 
 dead_more : (xs : List ℕ) (b : ℕ) → IsDead xs → IsStrange (xs ++ b ∷ [])
 dead_more xs b dead =
@@ -204,23 +204,23 @@ first_is b false false true p i digit h0 h1 h2 h3 h4 h5 = ap (λ (c : ℕ). c �
 first_is b false false false true i digit h0 h1 h2 h3 h4 h5 = ap (λ (c : ℕ). c ∷ []) (eq_true b 112 h3)
 first_is b false false false false true digit h0 h1 h2 h3 h4 h5 = (rw h4 refl, refl, omega arith)
 first_is b false false false false false true h0 h1 h2 h3 h4 h5 = record {
-    literal = rw (h1, h5) (lt-ltb 48 b (above_zero b h0 h5));
-    sign = rw h1 refl;
-    value = inl (one_digit b h5, rw h1 (sym (zero-add (digit_value b) ∙ (digit_is b h5).0)));
-  }
+  literal = rw (h1, h5) (lt-ltb 48 b (above_zero b h0 h5));
+  sign = rw h1 refl;
+  value = inl (one_digit b h5, rw h1 (sym (zero-add (digit_value b) ∙ (digit_is b h5).0)));
+}
 first_is b false false false false false false h0 h1 h2 h3 h4 h5 = record {
-    dead = record { some = omega arith; not_minus = not_head b 45 h1; not_literal = rw (h1, h5) refl; not_front = rw h4 refl };
-    not_zero = rw h0 refl;
-    not_mark = rw h2 refl;
-    not_p = rw h3 refl;
-  }
+  dead = record { some = omega arith; not_minus = not_head b 45 h1; not_literal = rw (h1, h5) refl; not_front = rw h4 refl };
+  not_zero = rw h0 refl;
+  not_mark = rw h2 refl;
+  not_p = rw h3 refl;
+}
 
 second_is : (b : ℕ) (digit large : Bool) → is_ascii_digit b ≡ digit → nat_lt 48 b ≡ large → IsWord (cond (digit && large) (word.Number true (b - 48)) word.Strange) (45 ∷ b ∷ [])
 second_is b true true h0 h1 = record {
-    literal = rw (h0, h1) refl;
-    sign = refl;
-    value = inl (one_digit b h0, sym (zero-add (digit_value b) ∙ (digit_is b h0).0));
-  }
+  literal = rw (h0, h1) refl;
+  sign = refl;
+  value = inl (one_digit b h0, sym (zero-add (digit_value b) ∙ (digit_is b h0).0));
+}
 second_is b true false h0 h1 = strange (45 ∷ []) b (omega arith) (rw (h0, h1) refl) refl
 second_is b false large h0 h1 = strange (45 ∷ []) b (omega arith) (rw h0 refl) refl
 
@@ -245,6 +245,7 @@ capped v n b false h cap digit = at v n (digit_is b digit).0 (small v h) cap (ca
   where
     small : (v : ℕ) → nat_lt 8388607 v ≡ false → v ≤ 8388607
     small v h = grind (arith, nat_tests)
+
     at : (v n : ℕ) → digit_value b ≡ b - 48 → v ≤ 8388607 → IsCapped v n → (8388607 < v * 10 + (b - 48)) ⊎ (v * 10 + (b - 48) ≤ 8388607) → IsCapped (v * 10 + (b - 48)) (n * 10 + digit_value b)
     at v n d low (inl is) (inl over) = let x = is.1 in inr (over, omega arith)
     at v n d low (inl is) (inr under) = let x = is.1 in inl (under, omega arith)
@@ -253,10 +254,10 @@ capped v n b false h cap digit = at v n (digit_is b digit).0 (small v h) cap (ca
 number_is : (negative : Bool) (v : ℕ) (bytes : List ℕ) (b : ℕ) (digit : Bool) → is_ascii_digit b ≡ digit → IsNumber negative v bytes →
     IsWord (cond digit (word.Number negative (cond (nat_lt 8388607 v) v (v * 10 + (b - 48)))) word.Strange) (bytes ++ b ∷ [])
 number_is negative v bytes b true h is = record {
-    literal = is_literal-push bytes b (number_some bytes is.literal) (number_not_minus bytes is.literal) ∙ and_from _ _ is.literal h;
-    sign = is_minus-push bytes b (number_some bytes is.literal) ∙ is.sign;
-    value = subst (λ (n : ℕ). IsCapped (cond (nat_lt 8388607 v) v (v * 10 + (b - 48))) n) (sym (variable_of-push bytes b (number_some bytes is.literal))) (capped v (variable_of bytes) b (nat_lt 8388607 v) refl is.value h);
-  }
+  literal = is_literal-push bytes b (number_some bytes is.literal) (number_not_minus bytes is.literal) ∙ and_from _ _ is.literal h;
+  sign = is_minus-push bytes b (number_some bytes is.literal) ∙ is.sign;
+  value = subst (λ (n : ℕ). IsCapped (cond (nat_lt 8388607 v) v (v * 10 + (b - 48))) n) (sym (variable_of-push bytes b (number_some bytes is.literal))) (capped v (variable_of bytes) b (nat_lt 8388607 v) refl is.value h);
+}
 number_is negative v bytes b false h is =
     strange bytes b (number_some bytes is.literal)
     (is_literal-push bytes b (number_some bytes is.literal) (number_not_minus bytes is.literal) ∙ ap (λ r. is_literal bytes && r) h ∙ and_false (is_literal bytes))

@@ -1,8 +1,8 @@
 -- What the states of a reader say of the text.
-use Rattle.std.proofs.Common.{◌≡◌, ◌∙◌, ℕ, zero, suc, ◌+◌, ◌-◌, ◌<◌, ◌≤◌, List, [], ◌∷◌, ◌++◌, length, take, map, get_or, Bool, true, false, cond, refl, ap, sym, subst, inl, inr, arith, append_assoc, append-nil}
-use Rattle.std.specs.Prelude.{◌⊎◌, ◌==◌, ◌&&◌, not, nat_lt, nat_le, Option, Some, None, count_by, slice_index}
+use Rattle.std.proofs.Common.{◌≡◌, ◌∙◌, ℕ, zero, suc, ◌+◌, ◌-◌, ◌<◌, ◌≤◌, List, [], ◌∷◌, ◌++◌, length, take, map, get_or, Bool, true, false, cond, refl, ap, sym, subst, inl, inr, arith, append-nil}
+use Rattle.std.specs.Prelude.{◌⊎◌, ◌&&◌, not, nat_lt, nat_le, Option, Some, None, count_by, slice_index}
 use Rattle.std.specs.Option.{option_or}
-use Rattle.std.proofs.lemmas.Bool.{cases_lt, le-leb, lt-ltb}
+use Rattle.std.proofs.lemmas.Bool.{cases_lt, lt-ltb}
 use Rattle.std.proofs.lemmas.Bool.Decides.{nat_tests}
 use Rattle.std.proofs.lemmas.List.{take_all, take_more}
 use Rattle.icnf_text.specs.declared.statements.Numbered.{Numbered}
@@ -13,10 +13,10 @@ use Rattle.icnf_text.specs.declared.words.Word.{Word}
 use Rattle.icnf_text.specs.declared.words.Word.TheVariants as word
 use Rattle.icnf_text.specs.declared.places.Place.{Place}
 use Rattle.icnf_text.specs.declared.places.Place.TheVariants as place
-use Rattle.icnf_text.specs.Layout.{is_blank, is_line_feed, Token, tokens_of, tokens_on, line_behind, last_line}
+use Rattle.icnf_text.specs.Layout.{is_blank, is_line_feed, Token, tokens_of, line_behind, last_line}
 use Rattle.icnf_text.specs.Judgement.{Header, header_of, header, within, is_too_long, statements_under, wrong_under, wrong_end, fault_on, statements, wrong}
-use Rattle.icnf_text.specs.Machine.{State, Step, Parse, Taken, quiet, start, word_at, line_at, end_at, word_ended, word_ended_at, line_ended, line_ended_unless, margin, put_at, with_byte, read_unless, read_byte, and_then, read_bytes, finished, finished_unless, ended_unless, last_at}
-use Rattle.icnf_text.proofs.Lines.{piece, worded, last_row, rows, token_here, last_part-at, last_part-more, tokens_of-ended, tokens_of-line_feed, tokens_of-blank, tokens_of-more, line_number}
+use Rattle.icnf_text.specs.Machine.{State, Step, Parse, Taken, quiet, start, word_at, line_at, word_ended, word_ended_at, line_ended_unless, margin, put_at, with_byte, read_unless, read_byte, and_then, read_bytes, finished, finished_unless, ended_unless, last_at}
+use Rattle.icnf_text.proofs.Lines.{piece, last_row, rows, token_here, last_part-at, last_part-more, tokens_of-ended, tokens_of-line_feed, tokens_of-blank, tokens_of-more, line_number}
 use Rattle.icnf_text.proofs.LinePlaces.{IsPlace, put_is, put_keeps, blank_is, gap_is, no_token, one_token}
 use Rattle.icnf_text.proofs.Grammar.{count_by-push}
 use Rattle.icnf_text.proofs.HeaderStates.{Knows, Comes, knows_right, word_comes, line_comes, line_given, knows_nothing, end_is, header_stays}
@@ -84,7 +84,7 @@ long_wrong : (text : List ℕ) (b : ℕ) → 4294967296 ≤ length text → wron
 unfolding wrong
 long_wrong text b h =
     ap (λ c. option_or (wrong_under (header (text ++ b ∷ []) false)) (cond c (Some (record { line = line_behind (within (text ++ b ∷ [])); reason = reason.TooLong })) None))
-      (long_text (text ++ b ∷ []) (let k = push_length text b in omega arith))
+    (long_text (text ++ b ∷ []) (let k = push_length text b in omega arith))
     ∙ ap (λ (r : Header). option_or (wrong_under r) (Some (record { line = line_behind (within (text ++ b ∷ [])); reason = reason.TooLong }))) (header_same text b h)
     ∙ ap (λ (t : List ℕ). option_or (wrong_under (header text false)) (Some (record { line = line_behind t; reason = reason.TooLong }))) (within_same text b h)
 
@@ -136,7 +136,7 @@ stays_short text b f more k lt h is line on =
     let was : wrong_under (header_of (line_behind text) (tokens_of text false)) ≡ Some f = sym (short_wrong text (omega arith)) ∙ h in
     let stays = header_stays (line_behind text) (line_behind text + k) (tokens_of text false) more f (omega arith) on was in
     let now : header_of (line_behind (text ++ b ∷ [])) (tokens_of (text ++ b ∷ []) false) ≡ header_of (line_behind text + k) (tokens_of text false ++ more) =
-        ap (λ n. header_of n (tokens_of (text ++ b ∷ []) false)) line ∙ ap (header_of (line_behind text + k)) is in (
+    ap (λ n. header_of n (tokens_of (text ++ b ∷ []) false)) line ∙ ap (header_of (line_behind text + k)) is in (
       short_wrong (text ++ b ∷ []) short ∙ ap wrong_under now ∙ stays.0,
       short_statements (text ++ b ∷ []) false short ∙ ap statements_under now ∙ stays.1 ∙ sym (short_statements text false (omega arith)),
     )
@@ -149,6 +149,7 @@ settled text b f h = by (cases_lt (length text) 4294967296)
     short lt true e blank e' = stays_short text b f (token_here text) 1 lt h (tokens_of-line_feed text b e) (line_feed_line text b true e) (here_line text)
     short lt false e true e' = stays_short text b f (token_here text) 0 lt h (tokens_of-blank text b e e') (line_feed_line text b false e) (here_line text)
     short lt false e false e' = stays_short text b f [] 0 lt h (tokens_of-more text b e e' ∙ sym (append-nil (tokens_of text false))) (line_feed_line text b false e) (λ u us q. cc)
+
     by : (length text < 4294967296) ⊎ (4294967296 ≤ length text) → (wrong (text ++ b ∷ []) false ≡ Some f) × (statements (text ++ b ∷ []) false ≡ statements text false)
     by (inl lt) = short lt (is_line_feed b) refl (is_blank b) refl
     by (inr le) = (long_wrong text b le ∙ long_before text f h, long_statements text b le)
@@ -257,9 +258,9 @@ word_ends place.Gap text s out e none line is knows = no_word_ends place.Gap tex
 word_ends place.Word text s out e none line is knows =
     let taken : Taken = word_at s.parse.phase s.parse s.line s.word in
     let here : token_here text ≡ record { line = s.line; bytes = piece (last_row text) } ∷ [] =
-        one_token s.word (last_row text) (1 + length (rows text)) is ∙ ap (λ n. let t : Token = record { line = n; bytes = piece (last_row text) } in t ∷ []) (line_number text ∙ sym line) in
+    one_token s.word (last_row text) (1 + length (rows text)) is ∙ ap (λ n. let t : Token = record { line = n; bytes = piece (last_row text) } in t ∷ []) (line_number text ∙ sym line) in
     let comes : Comes taken s.line s.line (with_here text) out =
-        subst (λ (h : List Token). Comes taken s.line s.line (tokens_of text false ++ h) out) (sym here) (word_comes s.parse s.line (tokens_of text false) out s.word (piece (last_row text)) is.3 is.1 knows) in record {
+    subst (λ (h : List Token). Comes taken s.line s.line (tokens_of text false ++ h) out) (sym here) (word_comes s.parse s.line (tokens_of text false) out s.word (piece (last_row text)) is.3 is.1 knows) in record {
       bytes = refl;
       line = refl;
       word_is = refl;
@@ -284,28 +285,31 @@ after_blank text b s e out more end no_feed blank = by (some_or_none e.state.fau
   where
     tokens : tokens_of (text ++ b ∷ []) false ≡ with_here text
     tokens = tokens_of-blank text b no_feed blank
+
     line : line_behind (text ++ b ∷ []) ≡ s.line
     line = line_feed_line text b false no_feed ∙ plus_zero (line_behind text) ∙ sym more.line
       where
         plus_zero : (k : ℕ) → k + 0 ≡ k
         plus_zero k = omega arith
+
     headers : header_of (line_behind (text ++ b ∷ [])) (tokens_of (text ++ b ∷ []) false) ≡ header_of s.line (with_here text)
     headers = ap (λ n. header_of n (tokens_of (text ++ b ∷ []) false)) line ∙ ap (header_of s.line) tokens
+
     by : (e.state.fault ≡ None) ⊎ ((f : Fault) × (e.state.fault ≡ Some f)) → After (text ++ b ∷ []) out (record e { state = record e.state { place = margin e.state.place } })
     by (inl none) = inl (record {
-        fault = none;
-        bytes = end.bytes ∙ more.bytes;
-        short = more.short;
-        line = end.line ∙ sym line;
-        place = subst (λ (w : Word). IsPlace (margin e.state.place) w (last_row (text ++ b ∷ []))) (sym end.word_is) (subst (IsPlace (margin e.state.place) word.Nothing) (sym (last_part-more is_line_feed text b no_feed)) (end.place_is b blank));
-        knows = subst (λ n. Knows e.state.parse n (tokens_of (text ++ b ∷ []) false) (out ++ e.given)) (sym end.line) (subst (λ (ts : List Token). Knows e.state.parse s.line ts (out ++ e.given)) (sym tokens) (end.goes none));
-      })
+      fault = none;
+      bytes = end.bytes ∙ more.bytes;
+      short = more.short;
+      line = end.line ∙ sym line;
+      place = subst (λ (w : Word). IsPlace (margin e.state.place) w (last_row (text ++ b ∷ []))) (sym end.word_is) (subst (IsPlace (margin e.state.place) word.Nothing) (sym (last_part-more is_line_feed text b no_feed)) (end.place_is b blank));
+      knows = subst (λ n. Knows e.state.parse n (tokens_of (text ++ b ∷ []) false) (out ++ e.given)) (sym end.line) (subst (λ (ts : List Token). Knows e.state.parse s.line ts (out ++ e.given)) (sym tokens) (end.goes none));
+    })
     by (inr some) = let stops = end.stops some.0 some.1 in inr (record {
-        fault = some.0;
-        is = some.1;
-        wrong_is = short_wrong (text ++ b ∷ []) more.short ∙ ap wrong_under headers ∙ stops.0;
-        given = stops.1 ∙ sym (ap statements_under headers) ∙ sym (short_statements (text ++ b ∷ []) false more.short);
-      })
+      fault = some.0;
+      is = some.1;
+      wrong_is = short_wrong (text ++ b ∷ []) more.short ∙ ap wrong_under headers ∙ stops.0;
+      given = stops.1 ∙ sym (ap statements_under headers) ∙ sym (short_statements (text ++ b ∷ []) false more.short);
+    })
 
 after_more : (text : List ℕ) (b : ℕ) (s : State) (out : List Numbered) → Longer text b s out → s.fault ≡ None → IsPlace s.place s.word (last_row text) → Knows s.parse s.line (tokens_of text false) out → is_line_feed b ≡ false → is_blank b ≡ false →
     After (text ++ b ∷ []) out (quiet (put_at s.place s b))
@@ -320,7 +324,7 @@ after_more text b s out more none is knows no_feed no_blank =
       place = subst (IsPlace (put_at s.place s b).place (put_at s.place s b).word) (sym (last_part-more is_line_feed text b no_feed)) (put_is s.place s (last_row text) b refl no_blank is);
       knows = subst (λ (p : Parse). Knows p (put_at s.place s b).line (tokens_of (text ++ b ∷ []) false) (out ++ [])) (sym keeps.0)
           (subst (λ n. Knows s.parse n (tokens_of (text ++ b ∷ []) false) (out ++ [])) (sym keeps.2)
-           (subst (λ (ts : List Token). Knows s.parse s.line ts (out ++ [])) (sym tokens) (subst (Knows s.parse s.line (tokens_of text false)) (sym (append-nil out)) knows)));
+          (subst (λ (ts : List Token). Knows s.parse s.line ts (out ++ [])) (sym tokens) (subst (Knows s.parse s.line (tokens_of text false)) (sym (append-nil out)) knows)));
     })
   where
     plus_zero : (k : ℕ) → k + 0 ≡ k
@@ -331,37 +335,44 @@ after_feed text b s e out more end feed = by (some_or_none e.state.fault)
   where
     tokens : tokens_of (text ++ b ∷ []) false ≡ with_here text
     tokens = tokens_of-line_feed text b feed
+
     line : line_behind (text ++ b ∷ []) ≡ s.line + 1
     line = line_feed_line text b true feed ∙ ap (λ n. n + 1) (sym more.line)
+
     headers : header_of (line_behind (text ++ b ∷ [])) (tokens_of (text ++ b ∷ []) false) ≡ header_of (s.line + 1) (with_here text)
     headers = ap (λ n. header_of n (tokens_of (text ++ b ∷ []) false)) line ∙ ap (header_of (s.line + 1)) tokens
+
     stopped : (t : State) (f : Fault) → t.fault ≡ Some f → wrong_under (header_of (s.line + 1) (with_here text)) ≡ Some f → out ++ e.given ≡ statements_under (header_of (s.line + 1) (with_here text)) → IsStopped (text ++ b ∷ []) t (out ++ e.given)
     stopped t f is under given = record {
-        fault = f;
-        is = is;
-        wrong_is = short_wrong (text ++ b ∷ []) more.short ∙ ap wrong_under headers ∙ under;
-        given = given ∙ sym (ap statements_under headers) ∙ sym (short_statements (text ++ b ∷ []) false more.short);
-      }
+      fault = f;
+      is = is;
+      wrong_is = short_wrong (text ++ b ∷ []) more.short ∙ ap wrong_under headers ∙ under;
+      given = given ∙ sym (ap statements_under headers) ∙ sym (short_statements (text ++ b ∷ []) false more.short);
+    }
+
     later : (f : Fault) → wrong_under (header_of s.line (with_here text)) ≡ Some f → (wrong_under (header_of (s.line + 1) (with_here text)) ≡ Some f) × (statements_under (header_of (s.line + 1) (with_here text)) ≡ statements_under (header_of s.line (with_here text)))
     later f h = subst (λ (ts : List Token). (wrong_under (header_of (s.line + 1) ts) ≡ Some f) × (statements_under (header_of (s.line + 1) ts) ≡ statements_under (header_of s.line (with_here text)))) (append-nil (with_here text))
         (header_stays s.line (s.line + 1) (with_here text) [] f (omega arith) (λ u us q. cc) h)
+
     given_is : (taken : Taken) → taken.given ≡ [] → (out ++ e.given) ++ taken.given ≡ out ++ e.given
     given_is taken none = ap (λ (g : List Numbered). (out ++ e.given) ++ g) none ∙ append-nil (out ++ e.given)
+
     lined : (taken : Taken) (why : Option Reason) → taken.reason ≡ why → taken.given ≡ [] → Comes taken s.line (s.line + 1) (with_here text) (out ++ e.given) →
         After (text ++ b ∷ []) out (record e { state = record e.state { parse = taken.parse; place = place.Start; line = e.state.line + 1; fault = fault_on e.state.line taken.reason } })
     lined taken None is none comes = inl (record {
-        fault = ap (fault_on e.state.line) is;
-        bytes = end.bytes ∙ more.bytes;
-        short = more.short;
-        line = ap (λ n. n + 1) end.line ∙ sym line;
-        place = (last_part-at is_line_feed text b feed, end.word_is);
-        knows = subst (λ n. Knows taken.parse n (tokens_of (text ++ b ∷ []) false) (out ++ e.given)) (ap (λ n. n + 1) (sym end.line))
-            (subst (λ (ts : List Token). Knows taken.parse (s.line + 1) ts (out ++ e.given)) (sym tokens) (subst (Knows taken.parse (s.line + 1) (with_here text)) (given_is taken none) (comes.goes is)));
-      })
+      fault = ap (fault_on e.state.line) is;
+      bytes = end.bytes ∙ more.bytes;
+      short = more.short;
+      line = ap (λ n. n + 1) end.line ∙ sym line;
+      place = (last_part-at is_line_feed text b feed, end.word_is);
+      knows = subst (λ n. Knows taken.parse n (tokens_of (text ++ b ∷ []) false) (out ++ e.given)) (ap (λ n. n + 1) (sym end.line))
+          (subst (λ (ts : List Token). Knows taken.parse (s.line + 1) ts (out ++ e.given)) (sym tokens) (subst (Knows taken.parse (s.line + 1) (with_here text)) (given_is taken none) (comes.goes is)));
+    })
     lined taken (Some r) is none comes =
         let stays = comes.stays r is in
         inr (stopped (record e.state { parse = taken.parse; place = place.Start; line = e.state.line + 1; fault = fault_on e.state.line taken.reason }) (record { line = s.line; reason = r })
         (ap (fault_on e.state.line) is ∙ ap (λ n. Some (record { line = n; reason = r })) end.line) stays.0 (sym (given_is taken none) ∙ stays.1))
+
     by : (e.state.fault ≡ None) ⊎ ((f : Fault) × (e.state.fault ≡ Some f)) → After (text ++ b ∷ []) out (record e { state = line_ended_unless e.state.fault e.state })
     by (inl none) =
         subst (λ (o : Option Fault). After (text ++ b ∷ []) out (record e { state = line_ended_unless o e.state })) (sym none)
@@ -376,21 +387,26 @@ byte_at text step b (inl r) = subst (After (text ++ b ∷ []) step.given) (sym (
   where
     many : (n : ℕ) → nat_le 4294967296 n ≡ true → 4294967296 ≤ n
     many n h = grind (arith, nat_tests)
+
     few : (n : ℕ) → nat_le 4294967296 n ≡ false → n < 4294967296
     few n h = grind (arith, nat_tests)
+
     s : State
     s = record step.state { bytes = step.state.bytes + 1 }
+
     more : step.state.bytes < 4294967296 → Longer text b s step.given
     more lt = record {
-        short = (let k = push_length text b in let l = r.bytes in omega arith);
-        bytes = (let k = push_length text b in let l = r.bytes in omega arith);
-        line = r.line;
-      }
+      short = (let k = push_length text b in let l = r.bytes in omega arith);
+      bytes = (let k = push_length text b in let l = r.bytes in omega arith);
+      line = r.line;
+    }
+
     kind : step.state.bytes < 4294967296 → (feed blank : Bool) → is_line_feed b ≡ feed → is_blank b ≡ blank →
         After (text ++ b ∷ []) step.given (cond feed (let e = word_ended s in record e { state = line_ended_unless e.state.fault e.state }) (cond blank (let e = word_ended s in record e { state = record e.state { place = margin e.state.place } }) (quiet (put_at s.place s b))))
     kind lt true blank e e' = after_feed text b s (word_ended s) step.given (more lt) (word_ends s.place text s step.given refl r.fault r.line r.place r.knows) e
     kind lt false true e e' = after_blank text b s (word_ended s) step.given (more lt) (word_ends s.place text s step.given refl r.fault r.line r.place r.knows) e e'
     kind lt false false e e' = after_more text b s step.given (more lt) r.fault r.place r.knows e e'
+
     by : (c : Bool) → nat_le 4294967296 step.state.bytes ≡ c → After (text ++ b ∷ []) step.given (cond c (quiet (record step.state { fault = Some (record { line = step.state.line; reason = reason.TooLong }) })) (with_byte s b))
     by true h = too_long text step.state step.given b r (many step.state.bytes h)
     by false h = kind (few step.state.bytes h) (is_line_feed b) (is_blank b) refl refl
@@ -405,6 +421,7 @@ is_at text = subst (λ (t : List ℕ). IsAt t (run t)) (take_all (length text) t
     read_push : (step : Step) (xs : List ℕ) (b : ℕ) → read_bytes step (xs ++ b ∷ []) ≡ and_then (read_bytes step xs) b
     read_push step [] b = refl
     read_push step (x ∷ xs) b = read_push (and_then step x) xs b
+
     front : (i : ℕ) → i ≤ length text → IsAt (take i text) (run (take i text))
     front zero h = inl (record { fault = refl; bytes = refl; short = omega arith; line = refl; place = (refl, refl); knows = knows_nothing })
     front (suc i) h =
@@ -473,6 +490,7 @@ last_is p text n is at = by (snoc_view text)
     none place.Comment at = refl
     none place.Gap at = refl
     none place.Word at = refl
+
     by : (text ≡ []) ⊎ ((ys : List ℕ) × (y : ℕ) × (text ≡ ys ++ y ∷ [])) → last_at p n ≡ last_line text
     by (inl empty) =
         ap (last_at p) (is ∙ ap line_behind empty) ∙ none p (subst (EndsAt p) (ap last_row empty) at) ∙ sym (ap last_line empty)
@@ -501,9 +519,10 @@ settled_end text f h = by (cases_lt 4294967296 (length text))
         let was : wrong_under (header_of (line_behind text) (tokens_of text false)) ≡ Some f = sym (short_wrong text le) ∙ h in
         let stays = here_or_nothing text f (line_behind text) (omega arith) was in (
           short_wrong_end text le ∙ ap (λ (ts : List Token). option_or (wrong_under (header_of (line_behind text) ts)) (wrong_end (last_line text) (header_of (line_behind text) ts))) (tokens_of-ended text)
-          ∙ ap (λ (o : Option Fault). option_or o (wrong_end (last_line text) (header_of (line_behind text) (with_here text)))) stays.0,
+              ∙ ap (λ (o : Option Fault). option_or o (wrong_end (last_line text) (header_of (line_behind text) (with_here text)))) stays.0,
           short_statements text true le ∙ ap (λ (ts : List Token). statements_under (header_of (line_behind text) ts)) (tokens_of-ended text) ∙ stays.1 ∙ sym (short_statements text false le),
         )
+
     by : (4294967296 < length text) ⊎ (length text ≤ 4294967296) → (wrong text true ≡ Some f) × (statements text true ≡ statements text false)
     by (inl long) = (long_end text (long_text text long) ∙ h, long_statements_end text (long_text text long))
     by (inr le) = short le
@@ -513,18 +532,21 @@ end_at_word text s e out short line end = by (some_or_none e.state.fault)
   where
     headers : header_of (line_behind text) (tokens_of text true) ≡ header_of s.line (with_here text)
     headers = ap (λ n. header_of n (tokens_of text true)) (sym line) ∙ ap (header_of s.line) (tokens_of-ended text)
+
     wrong_then : wrong text true ≡ option_or (wrong_under (header_of s.line (with_here text))) (wrong_end (last_line text) (header_of s.line (with_here text)))
     wrong_then = short_wrong_end text short ∙ ap (λ (h : Header). option_or (wrong_under h) (wrong_end (last_line text) h)) headers
+
     given_then : statements text true ≡ statements_under (header_of s.line (with_here text))
     given_then = short_statements text true short ∙ ap statements_under headers
+
     by : (e.state.fault ≡ None) ⊎ ((f : Fault) × (e.state.fault ≡ Some f)) → AtEnd text out (record e { state = ended_unless e.state.fault e.state })
     by (inl none) =
         let knows = end.goes none in
         let right = knows_right e.state.parse s.line (with_here text) (out ++ e.given) knows in
         subst (λ (o : Option Fault). AtEnd text out (record e { state = ended_unless o e.state })) (sym none) (
           end_is e.state.parse s.line (last_at e.state.place e.state.line) (with_here text) (out ++ e.given) knows
-          ∙ ap (λ n. wrong_end n (header_of s.line (with_here text))) (last_is e.state.place text e.state.line (end.line ∙ line) end.ends_at)
-          ∙ sym (wrong_then ∙ ap (λ (o : Option Fault). option_or o (wrong_end (last_line text) (header_of s.line (with_here text)))) right.0),
+              ∙ ap (λ n. wrong_end n (header_of s.line (with_here text))) (last_is e.state.place text e.state.line (end.line ∙ line) end.ends_at)
+              ∙ sym (wrong_then ∙ ap (λ (o : Option Fault). option_or o (wrong_end (last_line text) (header_of s.line (with_here text)))) right.0),
           right.1 ∙ sym given_then,
         )
     by (inr some) =

@@ -1,5 +1,5 @@
 -- The statements of a text, and its first wrong place.
-use Rattle.std.specs.Prelude.{ℕ, ◌+◌, ◌*◌, nat_lt, nat_le, ◌==◌, ◌&&◌, ◌||◌, not, Bool, true, false, if◌then◌else◌, Option, Some, None, is_some, List, [], ◌∷◌, ◌++◌, map, filter, length, take, codes, count_by}
+use Rattle.std.specs.Prelude.{ℕ, nat_lt, nat_le, ◌==◌, ◌&&◌, ◌||◌, not, Bool, true, false, if◌then◌else◌, Option, Some, None, is_some, List, [], ◌∷◌, ◌++◌, map, filter, length, take, codes, count_by}
 use Rattle.std.specs.Option.{option_or, option_map}
 use Rattle.std.specs.Str.{bytes_eq}
 use Rattle.icnf_text.specs.declared.statements.Statement.{Statement}
@@ -51,9 +51,9 @@ first_line (token ∷ tokens) = token.line
 -- the statement of a group: a cube where its first token is `a`; its line is that of its first token
 abbrev pub statement_of : List Token → Numbered
 statement_of group = record {
-    line = first_line group;
-    statement = if begins_cube group then Cube (set_of (lits_of group)) else Clause (set_of (lits_of group));
-  }
+  line = first_line group;
+  statement = if begins_cube group then Cube (set_of (lits_of group)) else Clause (set_of (lits_of group));
+}
 
 abbrev pub statements_of : List Token → List Numbered
 statements_of tokens = map statement_of (groups_of tokens)
@@ -158,5 +158,5 @@ statements text ended = statements_under (header text ended)
 unfoldable pub wrong : List ℕ → Bool → Option Fault
 wrong text ended = option_or (wrong_under (header text ended))
     (if is_too_long text then Some (record { line = line_behind (within text); reason = reason.TooLong })
-     else if ended then wrong_end (last_line text) (header text ended)
-     else None)
+    else if ended then wrong_end (last_line text) (header text ended)
+    else None)

@@ -1,6 +1,6 @@
 -- The states of a reader that sees one byte after another and keeps no token and no line.
 -- What they say of the text so far is stated without them, in `Judgement`.
-use Rattle.std.specs.Prelude.{◌≡◌, ℕ, ◌+◌, ◌-◌, ◌*◌, nat_lt, nat_le, ◌==◌, ◌&&◌, not, Bool, true, false, if◌then◌else◌, Option, Some, None, is_some, List, [], ◌∷◌, ◌++◌, slice_index, codes, IsTrue}
+use Rattle.std.specs.Prelude.{◌≡◌, ℕ, ◌+◌, ◌-◌, ◌*◌, nat_lt, nat_le, ◌==◌, ◌&&◌, Bool, true, false, if◌then◌else◌, Option, Some, None, List, [], ◌∷◌, ◌++◌, slice_index, codes, IsTrue}
 use Rattle.std.specs.Char.{is_ascii_digit}
 use Rattle.icnf_text.specs.declared.statements.Statement.{Statement}
 use Rattle.icnf_text.specs.declared.statements.Statement.TheVariants as statement
@@ -123,10 +123,10 @@ statement_as open_as.Cube lits = statement.Cube lits
 abbrev pub closed_unless : Option Reason → Parse → Taken
 closed_unless (Some why) parse = stops parse why
 closed_unless None parse = record {
-    parse = record parse { opened = open_as.Nothing; lits = [] };
-    reason = None;
-    given = record { line = parse.start; statement = statement_as parse.opened (set_of parse.lits) } ∷ [];
-  }
+  parse = record parse { opened = open_as.Nothing; lits = [] };
+  reason = None;
+  given = record { line = parse.start; statement = statement_as parse.opened (set_of parse.lits) } ∷ [];
+}
 
 abbrev pub zero_taken : Parse → ℕ → Taken
 zero_taken parse line = closed_unless (begun parse line).reason (begun parse line).parse
@@ -291,14 +291,14 @@ finished state = finished_unless state.fault state
 
 abbrev pub start : State
 start = record {
-    parse = record { phase = phase.Nothing; opened = open_as.Nothing; start = 0; lits = []; clauses = 0; cubes = 0; literals = 0 };
-    bytes = 0;
-    line = 1;
-    place = place.Start;
-    word = word.Nothing;
-    fault = None;
-    lost = false;
-  }
+  parse = record { phase = phase.Nothing; opened = open_as.Nothing; start = 0; lits = []; clauses = 0; cubes = 0; literals = 0 };
+  bytes = 0;
+  line = 1;
+  place = place.Start;
+  word = word.Nothing;
+  fault = None;
+  lost = false;
+}
 
 -- a reader that has read this text, in whatever pieces it came
 unfoldable pub HasRead : State → List ℕ → Type 0

@@ -1,7 +1,7 @@
 -- The text of statements, one on each line.
-use Rattle.std.specs.Prelude.{◌≡◌, ℕ, ◌≤◌, if◌then◌else◌, not, List, [], ◌∷◌, ◌++◌, length, codes, count_by, sum_by, decimal}
+use Rattle.std.specs.Prelude.{ℕ, ◌≤◌, if◌then◌else◌, not, List, [], ◌++◌, length, codes, count_by, sum_by, decimal}
 use Rattle.std.specs.List.{flat_map}
-use Rattle.sat_base.specs.Lit.{variable, is_negative, IsLitSet}
+use Rattle.sat_base.specs.Lit.{variable, is_negative}
 use Rattle.icnf_text.specs.declared.statements.Statement.{Statement}
 use Rattle.icnf_text.specs.declared.statements.Statement.TheVariants.{Clause, Cube}
 use Rattle.icnf_text.specs.Judgement.{is_clause}

@@ -15,10 +15,10 @@ mod sets;
 mod statements;
 mod words;
 
+pub use faults::{Fault, Reason};
 pub use plain::read_plain;
 pub use printing::print;
 pub use reader::{Fed, Reader};
-pub use faults::{Fault, Reason};
 pub use statements::{Numbered, Statement, Statements};
 
 #[cfg(test)]

@@ -11,7 +11,9 @@ use std::alloc::{AllocError, Global};
 use std::marker::Model;
 
 const MOST_CLAUSES: u32 = 16_777_216;
+
 const MOST_CUBES: u32 = 1_048_576;
+
 const MOST_LITERALS: u32 = 33_554_432;
 
 /// How much of the header has come.
@@ -54,8 +56,14 @@ impl Model for Parser {
     ghost Value = { Parse };
 
     ghost view = { λ p. record {
-        phase = p.phase; opened = p.opened; start = p.start; lits = p.lits.items;
-        clauses = p.clauses; cubes = p.cubes; literals = p.literals; } };
+      phase = p.phase;
+      opened = p.opened;
+      start = p.start;
+      lits = p.lits.items;
+      clauses = p.clauses;
+      cubes = p.cubes;
+      literals = p.literals;
+    } };
 }
 
 impl Parser {

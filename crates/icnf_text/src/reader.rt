@@ -43,7 +43,14 @@ impl Model for Reader {
     ghost Value = { State };
 
     ghost view = { λ r. record {
-        parse = r.parser; bytes = r.bytes; line = r.line; place = r.place; word = r.word; fault = r.fault; lost = r.lost; } };
+      parse = r.parser;
+      bytes = r.bytes;
+      line = r.line;
+      place = r.place;
+      word = r.word;
+      fault = r.fault;
+      lost = r.lost;
+    } };
 
     ghost invariant = { λ r. (r.line ≤ r.bytes + 1) × (r.bytes ≤ 4294967296) };
 }
@@ -246,13 +253,7 @@ fn last_line(place: Place, line: u64) -> u64
     ensures { result ≡ last_at place line }
 {
     match place {
-        Place::Start => {
-            if line > 1 {
-                line - 1
-            } else {
-                line
-            }
-        }
+        Place::Start => { if line > 1 { line - 1 } else { line } }
         _ => line,
     }
 }

@@ -1,7 +1,7 @@
 use super::*;
-use std::fmt::Write;
 use sat_base::{Clause, Cube, Lit};
 use std::alloc::{AllocError, Global};
+use std::fmt::Write;
 use std::test::Fail;
 
 fn clause(alloc: Global, numbers: &[i32]) -> Result<Statement, AllocError> {
@@ -154,11 +154,20 @@ fn texts_give_their_statements_and_their_first_wrong_place_however_cut(
         (b"p inccnf", ""),
         (b"\n c note\np inccnf 3 4\n", ""),
         (b"p inccnf\n1 2 0\n-1 0\na -2 0\n", "2c 1 2;3c -1;4a -2;"),
-        (b"p inccnf\r\n1 2 \r\nc inside\r\n0 -1\t0\r\na -2 0\r\n", "2c 1 2;4c -1;5a -2;"),
-        (b"p inccnf\n2 1 2 -1 0 a 3 -3 0 0 a 0", "2c 1 -1 2;2a 3 -3;2c;2a;"),
+        (
+            b"p inccnf\r\n1 2 \r\nc inside\r\n0 -1\t0\r\na -2 0\r\n",
+            "2c 1 2;4c -1;5a -2;",
+        ),
+        (
+            b"p inccnf\n2 1 2 -1 0 a 3 -3 0 0 a 0",
+            "2c 1 -1 2;2a 3 -3;2c;2a;",
+        ),
         (b"p inccnf\n1 0\na 0\n2 3", "2c 1;3a;4 Unfinished"),
         (b"p inccnf\n1 0\na\n\n", "2c 1;4 Unfinished"),
-        (b"p inccnf\n1 0 a -8388607 8388607 0\n", "2c 1;2a 8388607 -8388607;"),
+        (
+            b"p inccnf\n1 0 a -8388607 8388607 0\n",
+            "2c 1;2a 8388607 -8388607;",
+        ),
         (b"p inccnf\n8388608 0\n", "2 Variable"),
         (b"p inccnf\n1\n-8388608 0\n", "3 Variable"),
         (b"p inccnf\n99999999999999999999999999 0\n", "2 Variable"),

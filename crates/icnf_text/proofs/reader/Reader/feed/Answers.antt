@@ -1,4 +1,4 @@
-use Rattle.std.proofs.Common.{◌≡◌, ◌∙◌, ◌++◌, List, ap, sym}
+use Rattle.std.proofs.Common.{◌∙◌, ◌++◌, List, ap}
 use Rattle.icnf_text.specs.declared.statements.Numbered.{Numbered}
 use Rattle.icnf_text.specs.Machine.{State, read_bytes, quiet}
 use Rattle.icnf_text.proofs.Runs.{feed_read, feed_given, feed_fault, feed_after_fault}
@@ -16,5 +16,5 @@ returns-in-Ok-clause-fault c = λ text has. ap (λ (s : State). s.fault) c.self-
 pub returns-in-Ok-clause-after_fault : goal.returns-in-Ok-clause-after_fault
 returns-in-Ok-clause-after_fault c = λ text fault has h.
     let both = feed_after_fault c.args.self.now c.read_all.new.self text c.args.piece.now c.of.result fault c.in-Ok.ensures.state
-        (c.of.ensures ∙ c.in-Ok.ensures.given ∙ ap (λ (g : List Numbered). g ++ (read_bytes (quiet c.args.self.now) c.args.piece.now).given) c.new-given.ensures.items) has h in
+    (c.of.ensures ∙ c.in-Ok.ensures.given ∙ ap (λ (g : List Numbered). g ++ (read_bytes (quiet c.args.self.now) c.args.piece.now).given) c.new-given.ensures.items) has h in
     (both.0, ap (λ (s : State). s.fault) c.self-2.view_is ∙ both.1)

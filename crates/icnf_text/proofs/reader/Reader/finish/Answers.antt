@@ -1,4 +1,4 @@
-use Rattle.std.proofs.Common.{◌≡◌, ◌∙◌, ◌++◌, List, ap, sym}
+use Rattle.std.proofs.Common.{◌∙◌, ◌++◌, List, ap}
 use Rattle.icnf_text.specs.declared.statements.Numbered.{Numbered}
 use Rattle.icnf_text.specs.Machine.{State, finished}
 use Rattle.icnf_text.proofs.Runs.{finish_given, finish_fault}

@@ -1,4 +1,4 @@
-use Rattle.std.proofs.Common.{◌≡◌, ap}
+use Rattle.std.proofs.Common.{ap}
 use Rattle.icnf_text.specs.Machine.{HasRead, Parse, start}
 use Rattle.icnf_text.proofs.reader.Reader.new.Goals as goal
 
