@@ -1,0 +1,5 @@
+use Rattle.icnf_text.proofs.SortedSets.{set_is}
+use Rattle.icnf_text.proofs.sets.clause_of.Goals as goal
+
+pub returns : goal.returns
+returns c = set_is c.in_ok-clause.clause c.args.lits.now c.lits.ensures.set c.in_ok-clause.ensures.members
