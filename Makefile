@@ -2,7 +2,7 @@
 
 FILE ?= examples/counter.icnf
 
-.PHONY: run test bench-lock
+.PHONY: run test bench-reader bench-checker bench-lock
 
 # Proves what is not proved yet, builds the program, and solves FILE.
 run:
@@ -11,6 +11,15 @@ run:
 # What the merge gate runs: each proof from its sources, the edits that must fail, tests and programs.
 test:
 	.ci/run
+
+# The reader beside cat, a C loop, and the parsers of minisat and cadical where they are installed.
+bench-reader:
+	cd crates/icnf_bench && rt run < stdin > /dev/null
+	bench/reader.sh
+
+# A million steps of ten hints through the checker.
+bench-checker:
+	cd crates/trace_bench && rt run -- 1000000
 
 # A hundred thousand holds of the lock beside std's Mutex, by 1, 2 and 4 threads.
 bench-lock:
