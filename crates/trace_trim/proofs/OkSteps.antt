@@ -60,7 +60,7 @@ ok_from_each inputs packets own [] each = tt
 ok_from_each inputs packets own (first ∷ steps) each = (
   subst (λ all. IsOkStep (known inputs packets all) first) (append-nil own) (each zero first refl),
   ok_from_each inputs packets (own ++ known_of first ∷ []) steps
-  (λ i step is. subst (λ all. IsOkStep (known inputs packets all) step) (sym (append_assoc own (known_of first ∷ []) (map known_of (take i steps)))) (each (suc i) step is)),
+      (λ i step is. subst (λ all. IsOkStep (known inputs packets all) step) (sym (append_assoc own (known_of first ∷ []) (map known_of (take i steps)))) (each (suc i) step is)),
 )
 
 -- what a hint of the step of that name names, out of the inputs and all steps

@@ -9,6 +9,8 @@
 mod lookup;
 mod reach;
 mod renumber;
+#[cfg(test)]
+mod tests;
 mod trimming;
 
 pub use trimming::trim;
