@@ -27,10 +27,10 @@ fn main(rt: HostRuntime) -> Result<()> {
     let inputs = rt.process_cpu_time()?.saturating_sub(start);
     let steps = trace::steps(rt.alloc(), count)?;
     let start = rt.process_cpu_time()?;
-    let ok = trace::check_all(&mut checker, &steps)?;
+    let ok = trace::are_ok(&mut checker, &steps)?;
     let checks = rt.process_cpu_time()?.saturating_sub(start);
 
-    println!(rt; "{ok} of {count} steps are ok")?;
+    println!(rt; "{count} steps, all ok: {ok}")?;
     if given.is_some() {
         println!(rt; "inputs {inputs:?}, checks {checks:?}")?;
     }

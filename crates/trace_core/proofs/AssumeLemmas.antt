@@ -1,14 +1,14 @@
 -- The negations of a clause's literals, which hold at the start.
-use Rattle.std.proofs.Common.{◌≡◌, ◌∙◌, ℕ, zero, suc, ◌+◌, ◌-◌, ◌*◌, ◌/◌, ◌%◌, ◌<◌, ◌≤◌, List, [], ◌∷◌, ◌++◌, map, take, drop, length, get_or, set, Bool, true, false, refl, ap, subst, sym, inl, inr, arith}
+use Rattle.std.proofs.Common.{◌≡◌, ◌∙◌, ℕ, zero, suc, ◌+◌, ◌*◌, ◌/◌, ◌<◌, ◌≤◌, List, [], ◌∷◌, ◌++◌, map, take, length, get_or, set, true, false, refl, ap, subst, sym, inl, inr, arith}
 use Rattle.std.specs.Prelude.{IsTrue, Contains, ◌⊎◌, ◌↔◌}
 use Rattle.std.specs.List.{concat}
-use Rattle.std.proofs.lemmas.Bool.{both_ways, cases_Bool, cases_eq, false≢true}
-use Rattle.std.proofs.lemmas.List.{take_more, take_all, map_push}
+use Rattle.std.proofs.lemmas.Bool.{both_ways, cases_Bool, cases_eq}
+use Rattle.std.proofs.lemmas.List.{take_all, map_push}
 use Rattle.std.proofs.lemmas.List.Elements.{Contains-push, Contains-push_cases, Contains-append_left, Contains-append_right, Contains-append_cases, Contains-get_or}
 use Rattle.sat_base.specs.Lit.{opposite}
 use Rattle.sat_base.proofs.Opposite.{opposite-opposite}
 use Rattle.sat_base.proofs.Members.{Contains-here, Contains-there}
-use Rattle.trace_core.specs.Propagation.{ReachesConflict, StandsInOneOf}
+use Rattle.trace_core.specs.Propagation.{StandsInOneOf}
 use Rattle.trace_core.specs.Marking.{holds, is_uncovered, is_held_mark, is_uncovered_mark, Agree, AreFree, HasRoom, CoveredBy}
 use Rattle.trace_core.proofs.MarkLemmas.{marked_within, mark_written, mark_other, seen_more, nothing_in}
 use Rattle.trace_core.proofs.UnitLemmas.{agree_added}

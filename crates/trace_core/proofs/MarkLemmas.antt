@@ -1,12 +1,12 @@
 -- Marks of literals, and what a scan of a clause finds.
-use Rattle.std.proofs.Common.{◌≡◌, ◌≢◌, ◌∙◌, ℕ, zero, suc, ◌+◌, ◌-◌, ◌*◌, ◌/◌, ◌%◌, ◌<◌, ◌≤◌, List, [], ◌∷◌, ◌++◌, map, take, drop, length, get_or, set, Bool, true, false, refl, ap, subst, sym, inl, inr, arith, get_or-set_same, get_or-set_other}
-use Rattle.std.specs.Prelude.{IsTrue, Contains, ◌⊎◌, ◌↔◌}
+use Rattle.std.proofs.Common.{◌≡◌, ◌≢◌, ◌∙◌, ℕ, ◌+◌, ◌<◌, ◌≤◌, List, [], ◌∷◌, ◌++◌, take, length, get_or, set, true, false, refl, ap, subst, sym, inl, inr, arith, get_or-set_same, get_or-set_other}
+use Rattle.std.specs.Prelude.{IsTrue, Contains, ◌⊎◌}
 use Rattle.std.proofs.lemmas.Bool.{both_ways, cases_eq, cases_lt}
 use Rattle.std.proofs.lemmas.List.{take_more, take_all, get_or_past}
 use Rattle.std.proofs.lemmas.List.Elements.{Contains-push, Contains-push_cases, Contains-append_left}
 use Rattle.sat_base.specs.Lit.{opposite}
-use Rattle.sat_base.proofs.Opposite.{opposite-opposite, opposite-injective}
-use Rattle.trace_core.specs.Marking.{holds, is_uncovered, is_held_mark, is_uncovered_mark, Agree, AreFree, HasRoom, IsFound, CoveredBy}
+use Rattle.sat_base.proofs.Opposite.{opposite-opposite}
+use Rattle.trace_core.specs.Marking.{holds, is_uncovered, is_held_mark, is_uncovered_mark, IsFound, CoveredBy}
 use Rattle.trace_core.specs.declared.marks.Mark.{Mark}
 use Rattle.trace_core.specs.declared.marks.Mark.TheVariants.{Free, Held, Uncovered}
 use Rattle.trace_core.specs.declared.marks.Found.{Found}

@@ -1,23 +1,20 @@
 -- Unit propagation over hints: what is kept from one hint to the next.
-use Rattle.std.proofs.Common.{◌≡◌, ◌≢◌, ◌∙◌, ℕ, zero, suc, ◌+◌, ◌-◌, ◌*◌, ◌/◌, ◌%◌, ◌<◌, ◌≤◌, List, [], ◌∷◌, ◌++◌, map, take, drop, length, get_or, set, Bool, true, false, refl, ap, subst, sym, inl, inr, arith, length-drop}
+use Rattle.std.proofs.Common.{◌≡◌, ◌∙◌, ℕ, ◌+◌, ◌<◌, List, [], ◌∷◌, ◌++◌, take, drop, length, get_or, set, true, false, refl, ap, subst, sym, inl, inr, arith, length-drop}
 use Rattle.std.specs.Prelude.{IsTrue, Contains, ◌⊎◌, ◌↔◌, ◌==◌}
 use Rattle.std.specs.List.{concat}
-use Rattle.std.proofs.lemmas.Bool.{both_ways, cases_Bool, cases_eq, cases_lt}
+use Rattle.std.proofs.lemmas.Bool.{both_ways, cases_Bool, cases_eq}
 use Rattle.std.proofs.lemmas.Bool.Decides.{nat_tests}
 use Rattle.std.proofs.lemmas.List.{take_more, take_all, drop_more, drop_all, append_assoc, append-nil, get_or-map, length-map}
-use Rattle.std.proofs.lemmas.List.Elements.{Contains-push, Contains-push_cases, Contains-append_left, Contains-append_right, Contains-append_cases, Contains-get_or}
+use Rattle.std.proofs.lemmas.List.Elements.{Contains-append_left, Contains-append_right, Contains-append_cases, Contains-get_or}
 use Rattle.sat_base.specs.Lit.{opposite}
-use Rattle.sat_base.proofs.Opposite.{opposite-opposite}
-use Rattle.sat_base.proofs.Members.{Contains-here, Contains-there}
-use Rattle.trace_core.specs.Propagation.{IsFalsified, IsUnit, ReachesConflict, StandsInOneOf}
-use Rattle.trace_core.specs.Marking.{holds, is_uncovered, is_held_mark, is_uncovered_mark, Agree, AreFree, HasRoom, IsFound, CoveredBy}
+use Rattle.trace_core.specs.Propagation.{IsFalsified, IsUnit, ReachesConflict}
+use Rattle.trace_core.specs.Marking.{holds, is_uncovered, Agree, HasRoom, IsFound, CoveredBy}
 use Rattle.sat_base.specs.declared.origins.Ref.{Ref}
 use Rattle.sat_base.specs.declared.origins.Ref.TheVariants.{Input}
 use Rattle.trace_core.specs.Known.{Known, clause_of}
 use Rattle.trace_core.specs.Checked.{HaveRoom, hinted, known_to}
-use Rattle.trace_core.proofs.MarkLemmas.{covered_none, marked_within, mark_written, mark_other}
+use Rattle.trace_core.proofs.MarkLemmas.{covered_none}
 use Rattle.trace_core.specs.declared.marks.Mark.{Mark}
-use Rattle.trace_core.specs.declared.marks.Mark.TheVariants.{Free, Held, Uncovered}
 use Rattle.trace_core.specs.declared.marks.Found.{Found}
 use Rattle.trace_core.specs.declared.marks.Found.TheVariants.{Nothing, One, More}
 

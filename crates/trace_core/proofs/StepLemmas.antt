@@ -1,11 +1,11 @@
 -- A step that isn't a tautology is ok exactly where its hints derive its clause.
-use Rattle.std.proofs.Common.{◌≡◌, ◌∙◌, ℕ, ◌+◌, ◌*◌, ◌/◌, ◌<◌, ◌≤◌, List, [], ◌∷◌, map, length, Bool, Option, Some, None, refl, ap, subst, sym, inl, inr}
-use Rattle.std.specs.Prelude.{IsTrue, IsSome, All, Contains, ◌⊎◌, ◌↔◌, slice_get, option_and_then}
+use Rattle.std.proofs.Common.{◌≡◌, ◌∙◌, ℕ, List, map, Bool, Option, Some, None, refl, ap, subst, sym, inl, inr}
+use Rattle.std.specs.Prelude.{IsTrue, IsSome, All, Contains, ◌↔◌}
 use Rattle.sat_base.specs.Lit.{opposite, IsTautology}
 use Rattle.sat_base.specs.declared.origins.Ref.{Ref}
 use Rattle.sat_base.specs.declared.origins.Ref.TheVariants.{Input, Shared, Own}
 use Rattle.sat_base.proofs.Members.{Contains-from_map}
-use Rattle.trace_core.specs.Known.{Known, known, item_at, clause_of, tag_of}
+use Rattle.trace_core.specs.Known.{Known, item_at, clause_of, tag_of}
 use Rattle.trace_core.specs.Propagation.{StandsInOneOf, ReachesConflict, IsProved}
 use Rattle.trace_core.specs.Trace.{IsOkStep, greatest}
 use Rattle.trace_core.specs.Marking.{HasRoom}

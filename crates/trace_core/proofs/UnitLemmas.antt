@@ -1,5 +1,5 @@
 -- A scan decides whether a clause is unit under the literals that hold.
-use Rattle.std.proofs.Common.{◌≡◌, ◌≢◌, ◌∙◌, ℕ, ◌+◌, ◌<◌, ◌≤◌, List, [], ◌∷◌, ◌++◌, length, get_or, set, Bool, true, false, refl, ap, subst, sym, inl, inr, arith}
+use Rattle.std.proofs.Common.{◌≡◌, ◌∙◌, ℕ, ◌<◌, List, [], ◌∷◌, ◌++◌, length, set, Bool, true, false, refl, ap, subst, sym, inl, inr}
 use Rattle.std.specs.Prelude.{IsTrue, Contains, ◌⊎◌, ◌↔◌, MatchBool}
 use Rattle.std.proofs.lemmas.Bool.{both_ways, cases_eq}
 use Rattle.std.proofs.lemmas.List.Elements.{Contains-push, Contains-push_cases, Contains-append_left}
@@ -8,7 +8,6 @@ use Rattle.trace_core.specs.Propagation.{IsUnit}
 use Rattle.trace_core.specs.Marking.{holds, is_held_mark, Agree, IsFound}
 use Rattle.trace_core.proofs.MarkLemmas.{mark_written, mark_other}
 use Rattle.trace_core.specs.declared.marks.Mark.{Mark}
-use Rattle.trace_core.specs.declared.marks.Mark.TheVariants.{Free, Held, Uncovered}
 use Rattle.trace_core.specs.declared.marks.Found.{Found}
 use Rattle.trace_core.specs.declared.marks.Found.TheVariants.{Nothing, One, More}
 

@@ -1,5 +1,5 @@
 -- How known clauses lie in memory: one block of literals, and the place of each clause in it.
-use Rattle.std.specs.Prelude.{ℕ, ◌+◌, ◌≤◌, List, length, take, drop, map, All}
+use Rattle.std.specs.Prelude.{ℕ, ◌+◌, ◌≤◌, List, take, drop, map}
 use Rattle.trace_core.specs.Known.{Known}
 use Rattle.trace_core.specs.declared.block.Place.{Place}
 

@@ -4,6 +4,7 @@ use crate::{Checker, Hints, Packet, Step, Steps};
 use sat_base::Ref::{Input, Own, Shared};
 use sat_base::{Clause, Lit, Ref};
 use std::alloc::Global;
+use std::process::Abort;
 use std::test::Fail;
 
 // Three pigeons and two holes: clauses 1 to 9.
@@ -213,36 +214,28 @@ fn tags_are_those_of_the_hints(rt: HostRuntime) -> Result<(), Fail> {
     Ok(())
 }
 
-#[test]
-fn copies_are_equal(rt: HostRuntime) -> Result<(), Fail> {
-    let alloc = rt.alloc();
-    let step = step_of(
-        alloc,
-        &[-1],
-        &[Input(4), Input(5), Input(2), Input(3), Input(9)],
-        1,
-    )?;
-    let copy = step.copy(alloc)?;
+fn expect_equal(rt: &impl Abort, copy: &Step, step: &Step) {
     assert_eq!(rt; copy.clause.lits(), step.clause.lits());
     assert_eq!(rt; copy.hints.items(), step.hints.items());
     assert_eq!(rt; copy.tag, step.tag);
+}
+
+#[test]
+fn copies_are_equal(rt: HostRuntime) -> Result<(), Fail> {
+    let alloc = rt.alloc();
+    let hints = [Input(4), Input(5), Input(2), Input(3), Input(9)];
+    let step = step_of(alloc, &[-1], &hints, 1)?;
+    expect_equal(&rt, &step.copy(alloc)?, &step);
 
     let mut steps = Vec::new(alloc);
     steps.push(step)?;
     let packet = Packet {
         steps: Steps::of(steps),
     };
-    let copy = packet.copy(alloc)?;
-    assert_eq!(rt; copy.steps.items().len(), 1);
-    for step in copy.steps.items() {
-        let hints = step.hints.copy(alloc)?.into_items();
-        assert_eq!(rt;
-            hints.as_slice(),
-            [Input(4), Input(5), Input(2), Input(3), Input(9)].as_slice()
-        );
-        assert_eq!(rt; step.clause.lits().len(), 1);
-        assert_eq!(rt; step.tag, 1);
+    let copies = packet.copy(alloc)?.steps.into_items();
+    for (copy, step) in copies.iter().zip(packet.steps.items()) {
+        expect_equal(&rt, copy, step);
     }
-    assert_eq!(rt; copy.steps.copy(alloc)?.into_items().len(), 1);
+    assert_eq!(rt; copies.len(), 1);
     Ok(())
 }

@@ -1,5 +1,4 @@
 use Rattle.std.proofs.Common.{rules, subst, sym, ◌++◌, ◌∷◌, []}
-use Rattle.std.proofs.lemmas.List.{take_all}
 use Rattle.trace_core.specs.Marking.{IsFound}
 use Rattle.trace_core.proofs.MarkLemmas.{scanned_none, scanned_free, scanned_held, scanned_shown, scanned_whole}
 use Rattle.trace_core.proofs.marks.scan.Goals as goal

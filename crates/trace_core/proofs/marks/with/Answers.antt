@@ -1,8 +1,7 @@
-use Rattle.std.proofs.Common.{rules, ◌≡◌, ℕ, List, false, subst, sym, eqb, eq-eqb}
+use Rattle.std.proofs.Common.{subst, sym, eqb, eq-eqb}
 use Rattle.std.proofs.lemmas.Bool.{both_ways}
-use Rattle.trace_core.specs.Marking.{holds, IsFound}
-use Rattle.trace_core.specs.declared.marks.Mark.{Mark}
-use Rattle.trace_core.proofs.MarkLemmas.{found_first, found_again, found_second, found_more}
+use Rattle.trace_core.specs.Marking.{IsFound}
+use Rattle.trace_core.proofs.MarkLemmas.{found_first, found_second, found_more}
 use Rattle.trace_core.proofs.marks.with.Goals as goal
 
 pub returns-in-Nothing : goal.returns-in-Nothing

@@ -1,4 +1,4 @@
-use Rattle.std.proofs.Common.{rules, ℕ, List, Option, ◌∙◌, refl, sym, ap, map, length}
+use Rattle.std.proofs.Common.{ℕ, List, Option, ◌∙◌, refl, sym, ap, map, length}
 use Rattle.std.specs.Prelude.{IsTrue, Contains, ◌↔◌}
 use Rattle.std.proofs.lemmas.Bool.{false≢true}
 use Rattle.std.proofs.lemmas.Result.{IfOk-weaker}

@@ -4,7 +4,7 @@ use Rattle.std.specs.Prelude.{IsTrue, MatchBool}
 use Rattle.std.proofs.lemmas.Result.{IfOk-weaker}
 use Rattle.trace_core.specs.Propagation.{IsUnit}
 use Rattle.trace_core.specs.Marking.{holds}
-use Rattle.trace_core.specs.declared.marks.Found.TheVariants.{Nothing, One, More}
+use Rattle.trace_core.specs.declared.marks.Found.TheVariants.{Nothing, More}
 use Rattle.trace_core.proofs.UnitLemmas.{no_unit, unit_added}
 use Rattle.trace_core.proofs.unit_propagation.advance.Goals as goal
 

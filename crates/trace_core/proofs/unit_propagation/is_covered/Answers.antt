@@ -1,5 +1,5 @@
 use Rattle.std.proofs.Common.{◌∙◌, refl}
-use Rattle.trace_core.proofs.AssumeLemmas.{covered_next, covered_whole, not_covered}
+use Rattle.trace_core.proofs.AssumeLemmas.{covered_next, covered_whole}
 use Rattle.trace_core.proofs.unit_propagation.is_covered.Goals as goal
 
 pub loop-lit-preserved : goal.loop-lit-preserved

@@ -1,4 +1,4 @@
-use Rattle.std.proofs.Common.{rules, ◌≡◌, ◌+◌, ◌-◌, ◌<◌, List, ℕ, length, get_or, [], refl, arith, subst, sym}
+use Rattle.std.proofs.Common.{◌≡◌, ◌-◌, List, ℕ, length, get_or, [], refl, arith, subst, sym}
 use Rattle.std.proofs.lemmas.Bool.{false≢true}
 use Rattle.trace_core.specs.Marking.{HasRoom}
 use Rattle.trace_core.specs.Checked.{hinted}

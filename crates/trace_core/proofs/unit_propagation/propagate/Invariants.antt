@@ -1,4 +1,3 @@
-use Rattle.std.proofs.Common.{take, drop}
 use Rattle.trace_core.specs.Checked.{hinted}
 use Rattle.trace_core.proofs.RunLemmas.{Ran}
 use Rattle.trace_core.proofs.unit_propagation.propagate.Given as goal

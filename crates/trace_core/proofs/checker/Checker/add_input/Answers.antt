@@ -1,12 +1,9 @@
-use Rattle.std.proofs.Common.{rules, arith, length, take, drop, ℕ, List, false, ◌++◌, [], ◌≡◌, ◌∙◌, ◌<◌, ◌≤◌, ap, sym, subst}
-use Rattle.std.specs.Prelude.{vec_len, IsTrue, ◌↔◌}
-use Rattle.std.proofs.lemmas.Bool.{false≢true}
-use Rattle.trace_core.specs.Known.{Known, known}
-use Rattle.trace_core.specs.Trace.{IsOkStep}
-use Rattle.trace_core.specs.Checked.{Checked}
+use Rattle.std.proofs.Common.{rules, length, List, ◌≡◌, ◌<◌, ap, sym, subst}
+use Rattle.std.specs.Prelude.{vec_len}
+use Rattle.trace_core.specs.Known.{Known}
 use Rattle.trace_core.specs.Marking.{HasRoom}
-use Rattle.trace_core.specs.Ready.{IsReady, HaveRoomFor}
-use Rattle.trace_core.proofs.ReadyLemmas.{ready_grown, ready_input, ready_step, ready_checked, room_checked, set_is_short}
+use Rattle.trace_core.specs.Ready.{IsReady}
+use Rattle.trace_core.proofs.ReadyLemmas.{ready_grown, ready_input, set_is_short}
 use Rattle.trace_core.proofs.checker.Checker.add_input.Goals as goal
 
 pub invariant_of-self : goal.invariant_of-self

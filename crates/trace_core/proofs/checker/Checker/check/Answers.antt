@@ -1,12 +1,11 @@
-use Rattle.std.proofs.Common.{rules, arith, length, take, drop, ℕ, List, true, false, ◌++◌, [], ◌≡◌, ◌∙◌, ◌<◌, ◌≤◌, ap, sym, subst}
+use Rattle.std.proofs.Common.{rules, length, take, drop, List, true, false, ◌++◌, [], ◌≡◌, ◌<◌, ap, sym, subst}
 use Rattle.std.specs.Prelude.{vec_len, IsTrue, ◌↔◌}
-use Rattle.std.proofs.lemmas.Bool.{false≢true}
 use Rattle.trace_core.specs.Known.{Known, known}
 use Rattle.trace_core.specs.Trace.{IsOkStep}
 use Rattle.trace_core.specs.Checked.{Checked}
 use Rattle.trace_core.specs.Marking.{HasRoom}
 use Rattle.trace_core.specs.Ready.{IsReady, HaveRoomFor}
-use Rattle.trace_core.proofs.ReadyLemmas.{ready_grown, ready_input, ready_step, ready_checked, room_checked, set_is_short}
+use Rattle.trace_core.proofs.ReadyLemmas.{ready_grown, ready_step, ready_checked, room_checked, set_is_short}
 use Rattle.trace_core.proofs.checker.Checker.check.Goals as goal
 
 pub invariant_of-self : goal.invariant_of-self
