@@ -1,0 +1,168 @@
+-- The order of names, and a rank that rises with it.
+use Rattle.std.proofs.Common.{◌≡◌, ℕ, zero, suc, ◌+◌, ◌*◌, ◌-◌, ◌<◌, ◌≤◌, List, [], ◌∷◌, ◌++◌, map, length, refl, subst, sym, ap, inl, inr, arith}
+use Rattle.std.specs.Prelude.{Contains, ◌⊎◌, Option, Some, None, IsSome, max, Bool, true, false, cond, ◌==◌, slice_get, option_and_then}
+use Rattle.std.proofs.Math.Nat.{mul-le-mul_right}
+use Rattle.std.proofs.lemmas.Bool.Decides.{nat_tests}
+use Rattle.sat_base.proofs.Members.{Contains-here, Contains-there, Contains-cases}
+use Rattle.std.specs.declared.cmp.Ordering.{Ordering}
+use Rattle.std.specs.declared.cmp.Ordering.TheVariants.{Less, Equal, Greater}
+use Rattle.sat_base.specs.contracts.origins.RefOrd.TheImpl as ref_ord
+use Rattle.sat_base.specs.declared.origins.Ref.{Ref}
+use Rattle.sat_base.specs.declared.origins.Ref.TheVariants.{Input, Shared, Own}
+use Rattle.trace_core.specs.Known.{item_at}
+use Rattle.trace_core.specs.declared.derivation.Step.{Step}
+use Rattle.trace_trim.specs.Names.{step_named, IsBefore}
+
+pub before_trans : (a b c : Ref) → IsBefore a b → IsBefore b c → IsBefore a c
+before_trans (Input m) (Input n) (Input k) h g = omega arith
+before_trans (Input m) (Shared p s) (Input k) h g = absurd g
+before_trans (Input m) (Own n) (Input k) h g = absurd g
+before_trans (Input m) b (Shared p s) h g = tt
+before_trans (Input m) b (Own n) h g = tt
+before_trans (Shared p s) (Input n) c h g = absurd h
+before_trans (Shared p s) (Shared q t) (Input k) h g = absurd g
+before_trans (Shared p s) (Shared q t) (Shared r u) (inl h) (inl g) = inl (omega arith)
+before_trans (Shared p s) (Shared q t) (Shared r u) (inl h) (inr g) = inl (omega (arith, g.0))
+before_trans (Shared p s) (Shared q t) (Shared r u) (inr h) (inl g) = inl (omega (arith, h.0))
+before_trans (Shared p s) (Shared q t) (Shared r u) (inr h) (inr g) = inr (omega (arith, h.0, g.0), omega (arith, h.1, g.1))
+before_trans (Shared p s) b (Own n) h g = tt
+before_trans (Shared p s) (Own n) (Input k) h g = absurd g
+before_trans (Shared p s) (Own n) (Shared r u) h g = absurd g
+before_trans (Own m) (Input n) c h g = absurd h
+before_trans (Own m) (Shared p s) c h g = absurd h
+before_trans (Own m) (Own n) (Input k) h g = absurd g
+before_trans (Own m) (Own n) (Shared r u) h g = absurd g
+before_trans (Own m) (Own n) (Own k) h g = omega arith
+
+-- how many steps the longest packet has
+pub longest : List (List Step) → ℕ
+longest [] = 0
+longest (packet ∷ packets) = max (length packet) (longest packets)
+
+-- a number that rises with the order of the names of steps
+pub rank : List (List Step) → Ref → ℕ
+rank packets (Input number) = 0
+rank packets (Shared packet step) = packet * suc (longest packets) + step
+rank packets (Own number) = suc (length packets) * suc (longest packets) + number
+
+slice_get-within : {X : Type 0} (xs : List X) (i : ℕ) → IsSome (slice_get xs i) → i < length xs
+slice_get-within [] i some = absurd (cc)
+slice_get-within (x ∷ xs) zero some = omega arith
+slice_get-within (x ∷ xs) (suc i) some = let h = slice_get-within xs i some in omega arith
+
+pub item_at-within : {X : Type 0} (xs : List X) (place : ℕ) → IsSome (item_at xs place) → (0 < place) × (place ≤ length xs)
+item_at-within xs place some = guarded (place == 0) refl some
+  where
+    guarded : (b : Bool) → (place == 0) ≡ b → IsSome (cond b None (slice_get xs (place - 1))) → (0 < place) × (place ≤ length xs)
+    guarded true is some = absurd (cc)
+    guarded false is some =
+        let h = slice_get-within xs (place - 1) some in
+        let positive : 0 < place = grind (arith, nat_tests) in
+        (positive, omega arith)
+
+slice_get-longest : (packets : List (List Step)) (i : ℕ) (packet : List Step) → slice_get packets i ≡ Some packet → length packet ≤ longest packets
+unfolding longest
+slice_get-longest [] i packet is = absurd (cc)
+slice_get-longest (first ∷ packets) zero packet is = let same : first ≡ packet = cc in omega (arith, ap length same)
+slice_get-longest (first ∷ packets) (suc i) packet is = let h = slice_get-longest packets i packet is in omega arith
+
+item_at-longest : (packets : List (List Step)) (place : ℕ) (packet : List Step) → item_at packets place ≡ Some packet → length packet ≤ longest packets
+item_at-longest packets place packet = guarded (place == 0)
+  where
+    guarded : (b : Bool) → cond b None (slice_get packets (place - 1)) ≡ Some packet → length packet ≤ longest packets
+    guarded true is = absurd (cc)
+    guarded false is = slice_get-longest packets (place - 1) packet is
+
+shared_within : (packets : List (List Step)) (packet step : ℕ) → IsSome (option_and_then (λ (steps : List Step). item_at steps step) (item_at packets packet)) → (packet ≤ length packets) × (step ≤ longest packets)
+shared_within packets packet step some = by_packet (item_at packets packet) refl some
+  where
+    by_packet : (o : Option (List Step)) → item_at packets packet ≡ o → IsSome (option_and_then (λ (steps : List Step). item_at steps step) o) → (packet ≤ length packets) × (step ≤ longest packets)
+    by_packet None is some = absurd (cc)
+    by_packet (Some steps) is some =
+        let within = item_at-within steps step some in
+        let long = item_at-longest packets packet steps is in
+        let there = item_at-within packets packet (subst IsSome (sym is) refl) in
+        (there.1, omega (arith, within.1))
+
+-- of packets of fewer steps than the bound, each step of an earlier packet ranks lower
+lower : (p q s t bound : ℕ) → p < q → s < bound → p * bound + s < q * bound + t
+lower p q s t bound lt small = let h : suc p * bound ≤ q * bound = mul-le-mul_right bound lt in omega arith
+
+pub rank-rises : (packets : List (List Step)) (own : List Step) (a b : Ref) → IsBefore a b → IsSome (step_named packets own a) → IsSome (step_named packets own b) → rank packets a < rank packets b
+unfolding rank
+rank-rises packets own (Input n) b before a_there b_there = absurd (cc)
+rank-rises packets own (Shared p s) (Input n) before a_there b_there = absurd before
+rank-rises packets own (Shared p s) (Shared q t) (inl before) a_there b_there = lower p q s t (suc (longest packets)) before (let h = shared_within packets p s a_there in omega (arith, h.1))
+rank-rises packets own (Shared p s) (Shared q t) (inr before) a_there b_there = let h : p * suc (longest packets) ≡ q * suc (longest packets) = ap (λ z. z * suc (longest packets)) before.0 in omega (arith, before.1)
+rank-rises packets own (Shared p s) (Own n) before a_there b_there = let h = shared_within packets p s a_there in lower p (suc (length packets)) s n (suc (longest packets)) (omega (arith, h.0)) (omega (arith, h.1))
+rank-rises packets own (Own m) (Input n) before a_there b_there = absurd before
+rank-rises packets own (Own m) (Shared q t) before a_there b_there = absurd before
+rank-rises packets own (Own m) (Own n) before a_there b_there = omega arith
+
+-- one above the greatest rank, 0 without names
+pub peak : List (List Step) → List Ref → ℕ
+peak packets [] = 0
+peak packets (name ∷ names) = max (suc (rank packets name)) (peak packets names)
+
+pub peak-below : (packets : List (List Step)) (names : List Ref) (bound : ℕ) → ((name : Ref) → Contains names name → rank packets name < bound) → peak packets names ≤ bound
+unfolding peak
+peak-below packets [] bound each = omega arith
+peak-below packets (name ∷ names) bound each =
+    let first = each name (Contains-here name names) in
+    let rest = peak-below packets names bound (λ other has. each other (Contains-there name other names has)) in
+    omega arith
+
+pub peak-above : (packets : List (List Step)) (names : List Ref) (name : Ref) → Contains names name → rank packets name < peak packets names
+unfolding peak
+peak-above packets [] name (k, lt, is) = absurd (omega arith)
+peak-above packets (first ∷ names) name has = by_case (λ h. peak-above packets names name h) (Contains-cases first name names has)
+  where
+    by_case : (Contains names name → rank packets name < peak packets names) → (first ≡ name) ⊎ Contains names name → rank packets name < max (suc (rank packets first)) (peak packets names)
+    by_case recur (inl same) = let h = ap (rank packets) same in omega arith
+    by_case recur (inr later) = let h = recur later in omega arith
+
+-- ---- the order of names is the one that `Ord` gives them
+
+pub before-from_less : (a b : Ref) → (ref_ord.cmp-value).it a b ≡ Less → IsBefore a b
+before-from_less (Input m) (Input n) is = grind (arith, nat_tests)
+before-from_less (Input m) (Shared q t) is = tt
+before-from_less (Input m) (Own n) is = tt
+before-from_less (Shared p s) (Input n) is = absurd (cc)
+before-from_less (Shared p s) (Shared q t) is = grind (arith, nat_tests)
+before-from_less (Shared p s) (Own n) is = tt
+before-from_less (Own m) (Input n) is = absurd (cc)
+before-from_less (Own m) (Shared q t) is = absurd (cc)
+before-from_less (Own m) (Own n) is = grind (arith, nat_tests)
+
+pub less-from_before : (a b : Ref) → IsBefore a b → (ref_ord.cmp-value).it a b ≡ Less
+less-from_before (Input m) (Input n) before = grind (arith, nat_tests)
+less-from_before (Input m) (Shared q t) before = refl
+less-from_before (Input m) (Own n) before = refl
+less-from_before (Shared p s) (Input n) before = absurd before
+less-from_before (Shared p s) (Shared q t) before = grind (arith, nat_tests)
+less-from_before (Shared p s) (Own n) before = refl
+less-from_before (Own m) (Input n) before = absurd before
+less-from_before (Own m) (Shared q t) before = absurd before
+less-from_before (Own m) (Own n) before = grind (arith, nat_tests)
+
+pub same-from_equal : (a b : Ref) → (ref_ord.cmp-value).it a b ≡ Equal → a ≡ b
+same-from_equal (Input m) (Input n) is = let e : m ≡ n = grind (arith, nat_tests) in ap Input e
+same-from_equal (Input m) (Shared q t) is = absurd (cc)
+same-from_equal (Input m) (Own n) is = absurd (cc)
+same-from_equal (Shared p s) (Input n) is = absurd (cc)
+same-from_equal (Shared p s) (Shared q t) is = let e : (p ≡ q) × (s ≡ t) = grind (arith, nat_tests) in cc
+same-from_equal (Shared p s) (Own n) is = absurd (cc)
+same-from_equal (Own m) (Input n) is = absurd (cc)
+same-from_equal (Own m) (Shared q t) is = absurd (cc)
+same-from_equal (Own m) (Own n) is = let e : m ≡ n = grind (arith, nat_tests) in ap Own e
+
+pub not_before_itself : (a : Ref) → IsBefore a a → ⊥
+not_before_itself (Input m) before = omega arith
+not_before_itself (Shared p s) (inl before) = omega arith
+not_before_itself (Shared p s) (inr before) = omega (arith, before.1)
+not_before_itself (Own m) before = omega arith
+
+pub equal_itself : (a : Ref) → (ref_ord.cmp-value).it a a ≡ Equal
+equal_itself (Input m) = grind (arith, nat_tests)
+equal_itself (Shared p s) = grind (arith, nat_tests)
+equal_itself (Own m) = grind (arith, nat_tests)

@@ -1,0 +1,42 @@
+-- A trimmed derivation: the steps that the last one rests on, with numbers of their own.
+use Rattle.std.specs.Prelude.{◌≡◌, ℕ, ◌↔◌, ◌∷◌, [], ◌++◌, map, Option, Some, MatchOption, List, AllPairs, Contains}
+use Rattle.std.specs.List.{AllZip}
+use Rattle.sat_base.specs.Lit.{opposite}
+use Rattle.sat_base.specs.declared.origins.Ref.{Ref}
+use Rattle.sat_base.specs.declared.origins.Ref.TheVariants.{Own}
+use Rattle.trace_core.specs.Known.{Known, item_at}
+use Rattle.trace_core.specs.Trace.{AreOkSteps, AreOkPackets, known_of, IsTrace}
+use Rattle.trace_core.specs.declared.derivation.Step.{Step}
+use Rattle.trace_trim.specs.Names.{step_named, cited, IsBefore, IsReached}
+
+-- The names of exactly the steps that are reached, each once, in their order. The last step stands last.
+pub record AreNamesReached (packets : List (List Step)) (own : List Step) (last : ℕ) (names : List Ref) : Type 0 where
+  pub exactly : (name : Ref) → Contains names name ↔ IsReached packets own last name
+  pub ascending : AllPairs IsBefore names
+  pub front : List Ref
+  pub ends : names ≡ front ++ Own last ∷ []
+
+-- A hint renumbered: an input keeps its name, and a step is named by its place among the names, counted from 1.
+abbrev pub IsRenumberedHint : List Ref → Ref → Ref → Ref → Type 0
+IsRenumberedHint names user hint renumbered = MatchOption (cited user hint) (renumbered ≡ hint) (λ other. (place : ℕ) × (item_at names place ≡ Some other) × (renumbered ≡ Own place))
+
+-- the step of that name with its hints renumbered, in their order
+pub record IsStepRenumbered (names : List Ref) (name : Ref) (step renumbered : Step) : Type 0 where
+  pub clause : renumbered.clause ≡ step.clause
+  pub hints : AllZip (IsRenumberedHint names name) step.hints renumbered.hints
+  pub tag : renumbered.tag ≡ step.tag
+
+-- the step that the name names, renumbered
+abbrev pub IsRenumbered : List (List Step) → List Step → List Ref → Ref → Step → Type 0
+IsRenumbered packets own names name renumbered = (step : Step) × (step_named packets own name ≡ Some step) × IsStepRenumbered names name step renumbered
+
+-- exactly the steps that are reached, each once, in their order, with their hints renumbered
+pub record IsTrimmed (packets : List (List Step)) (own : List Step) (last : ℕ) (trimmed : List Step) : Type 0 where
+  pub names : List Ref
+  pub reached : AreNamesReached packets own last names
+  pub renumbered : AllZip (IsRenumbered packets own names) names trimmed
+
+-- Over inputs for which the packets and the own steps are ok, the steps are a trace that refutes each part whose negation is the last clause.
+abbrev pub IsTraceWhereOk : List (List Step) → List Step → ℕ → List Step → Type 0
+IsTraceWhereOk packets own last trimmed = (inputs : List Known) (part : List ℕ) (step : Step) → AreOkPackets inputs [] packets → AreOkSteps inputs (map (λ packet. map known_of packet) packets) [] own
+    → item_at own last ≡ Some step → ((lit : ℕ) → Contains step.clause lit ↔ Contains part (opposite lit)) → IsTrace inputs part trimmed

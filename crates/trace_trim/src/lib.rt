@@ -1,0 +1,16 @@
+//! A derivation trimmed to what its last step rests on.
+//!
+//! A solver learns far more than one answer needs. `trim` takes the steps that are reached over hints from
+//! the answer's step, out of the shared packets and the solver's own steps, and numbers them anew; the layer
+//! above uses that the result is a trace wherever the given steps are ok. This crate knows no text, no
+//! solver and no board.
+#![tactic(auto)]
+
+mod lookup;
+mod reach;
+mod renumber;
+#[cfg(test)]
+mod tests;
+mod trimming;
+
+pub use trimming::trim;
