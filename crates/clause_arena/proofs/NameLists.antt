@@ -1,7 +1,7 @@
 -- Names beside a list that grows.
-use Rattle.std.proofs.Common.{◌≡◌, ◌∙◌, ℕ, ◌<◌, ◌≤◌, List, [], ◌∷◌, ◌++◌, map, length, take, refl, ap, subst, sym, arith, get_or}
+use Rattle.std.proofs.Common.{◌≡◌, ◌∙◌, ℕ, ◌≤◌, List, [], ◌∷◌, ◌++◌, map, length, take, refl, ap, sym, arith, get_or}
 use Rattle.std.specs.Prelude.{All}
-use Rattle.std.proofs.lemmas.List.{same_lists, get_or-take, length-take, map_push}
+use Rattle.std.proofs.lemmas.List.{get_or-take, length-take, map_push}
 use Rattle.std.proofs.lemmas.List.Elements.{All-weaker, All-head, All-tail}
 use Rattle.sat_base.specs.declared.origins.Ref.{Ref}
 use Rattle.sat_base.specs.declared.origins.Ref.TheVariants as name

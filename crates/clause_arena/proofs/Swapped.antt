@@ -3,12 +3,12 @@ use Rattle.std.proofs.Common.{◌≡◌, ◌∙◌, ℕ, ◌+◌, ◌-◌, ◌<�
 use Rattle.std.specs.Prelude.{◌⊎◌, slice_range, swap}
 use Rattle.std.proofs.lemmas.Bool.{cases_lt, cases_eq}
 use Rattle.std.proofs.lemmas.List.{same_lists, length-set, get_or-set_same, get_or-set_other}
-use Rattle.std.proofs.lemmas.List.Edits.{Swapped, swapped_from_swap, length-swap, length-between, get_or-between}
-use Rattle.clause_arena.specs.Arena.{ArenaClause, HasNoRepeat, clause_at, no_clause, with_places_swapped}
+use Rattle.std.proofs.lemmas.List.Edits.{swapped_from_swap, length-swap, length-between, get_or-between}
+use Rattle.clause_arena.specs.Arena.{ArenaClause, HasNoRepeat, clause_at, with_places_swapped}
 use Rattle.clause_arena.specs.Named.{Named, named_at}
-use Rattle.clause_arena.specs.Layout.{tabulated, laid_clause, laid_clauses, IsLaidOut}
-use Rattle.clause_arena.proofs.Tabulated.{length-tabulated, get_or-tabulated}
-use Rattle.clause_arena.proofs.Laid.{IsKnown, known, length-laid_clauses}
+use Rattle.clause_arena.specs.Layout.{laid_clause, laid_clauses, IsLaidOut}
+use Rattle.clause_arena.proofs.Tabulated.{get_or-tabulated}
+use Rattle.clause_arena.proofs.Laid.{known, length-laid_clauses}
 
 -- what stands at k stood at m before the places i and j were exchanged
 abbrev CameFrom : ℕ → ℕ → ℕ → ℕ → Type 0

@@ -156,19 +156,27 @@ mod tests {
             let second = clause(alloc, &[-3, 4, 1])?;
             assert_eq!(rt; arena.add(&second, 5, origin)?, id);
         }
-        arena.swap(0, 0, 1);
         assert_eq!(rt; arena.len(), 4);
+        assert_eq!(rt; arena.lits(0).len(), 2);
+        arena.swap(0, 0, 1);
         for (id, numbers) in [(0, [2, 1].as_slice()), (1, [1, -3, 4].as_slice())] {
-            for (place, number) in numbers.iter().enumerate() {
-                assert_eq!(rt; arena.lits(id)[place].number(), *number);
+            assert!(rt; id < arena.len());
+            assert_eq!(rt; arena.lits(id).len(), numbers.len());
+            for (lit, number) in arena.lits(id).iter().zip(numbers) {
+                assert_eq!(rt; lit.number(), *number);
             }
         }
-        assert_eq!(rt; arena.tag(0), 1);
-        assert_eq!(rt; arena.tag(3), 5);
-        assert_eq!(rt; arena.origin(0), Ref::Input(1));
-        assert_eq!(rt; arena.origin(1), Ref::Own(4_294_967_296));
-        assert_eq!(rt; arena.origin(2), shared);
-        assert_eq!(rt; arena.origin(3), Ref::Own(7));
+        let rows = [
+            (0, 1, Ref::Input(1)),
+            (1, 5, Ref::Own(4_294_967_296)),
+            (2, 5, shared),
+            (3, 5, Ref::Own(7)),
+        ];
+        for (id, tag, origin) in rows {
+            assert!(rt; id < arena.len());
+            assert_eq!(rt; arena.tag(id), tag);
+            assert_eq!(rt; arena.origin(id), origin);
+        }
         Ok(())
     }
 }

@@ -1,19 +1,18 @@
 -- Larger tables.
-use Rattle.std.proofs.Common.{◌≡◌, ◌∙◌, ℕ, zero, suc, ◌+◌, ◌-◌, ◌*◌, ◌/◌, ◌%◌, ◌<◌, ◌≤◌, min, List, [], ◌∷◌, ◌++◌, map, length, take, replicate, cond, refl, ap, subst, sym, inl, inr, arith, get_or}
-use Rattle.std.specs.Prelude.{◌⊎◌, All, Contains, count_by}
+use Rattle.std.proofs.Common.{◌≡◌, ◌∙◌, ℕ, zero, suc, ◌+◌, ◌-◌, ◌*◌, ◌<◌, ◌≤◌, List, ◌++◌, length, replicate, cond, refl, ap, subst, sym, inl, inr, arith, get_or}
+use Rattle.std.specs.Prelude.{◌⊎◌, Contains, count_by}
 use Rattle.std.proofs.lemmas.Bool.{cases_lt}
-use Rattle.std.proofs.lemmas.List.{same_lists, get_or-map, length-append, length-replicate, get_or_append_left, get_or-append_right, get_or-replicate, take-append-le, take-take, length-take-le, get_or-take}
-use Rattle.std.proofs.lemmas.List.Elements.{All-contains, Contains-get_or, All-get_or, All-from_get_or}
+use Rattle.std.proofs.lemmas.List.{same_lists, get_or-map, length-append, length-replicate, get_or_append_left, get_or-append_right, get_or-replicate}
+use Rattle.std.proofs.lemmas.List.Elements.{All-contains, Contains-get_or}
 use Rattle.std.proofs.lemmas.List.Sums.{sum_by-append, sum_by-cons}
-use Rattle.sat_base.specs.Lit.{variable, opposite}
+use Rattle.sat_base.specs.Lit.{variable}
 use Rattle.trail_core.specs.declared.truth.Truth.{Truth}
-use Rattle.trail_core.specs.declared.truth.Truth.TheVariants.{True, False, Unassigned}
+use Rattle.trail_core.specs.declared.truth.Truth.TheVariants.{Unassigned}
 use Rattle.trail_core.specs.declared.standing.Standing.{Standing}
 use Rattle.trail_core.specs.Trail.{Entry}
-use Rattle.trail_core.specs.UnderTrail.{IsTrueLit, IsFalseLit, IsUnassigned}
 use Rattle.trail_core.specs.Truth.{HasTruth, is_unassigned}
 use Rattle.trail_core.specs.Standing.{place_of, reason_of}
-use Rattle.trail_core.specs.Layout.{places, truth_at, standing_at, entry_of, AreTables, IsLaidOut}
+use Rattle.trail_core.specs.Layout.{places, truth_at, standing_at, entry_of, AreTables}
 use Rattle.trail_core.proofs.Views.{entries_of, length-entries, beyond}
 
 -- the standings of the variables that have a place stay
@@ -77,13 +76,15 @@ more_vars truths standings trues depth vars new extra t le standing_places extra
   where
     all : List Truth
     all = truths ++ replicate extra Unassigned
+
     size : length all ≡ length truths + extra
     size = omega (arith, length-append truths (replicate extra Unassigned), length-replicate extra Unassigned)
+
     at : (lit : ℕ) → 2 ≤ lit → lit < 2 + length truths + extra → (lit < 2 + length truths) ⊎ (2 + length truths ≤ lit) → HasTruth trues lit (truth_at all lit)
     at lit low high (inl old) =
         subst (HasTruth trues lit) (sym (get_or_append_left truths (replicate extra Unassigned) Unassigned (lit - 2) (omega arith))) (t.valued lit low old)
     at lit low high (inr far) =
         let is : truth_at all lit ≡ Unassigned =
-            get_or-append_right truths (replicate extra Unassigned) (length truths) (lit - 2) Unassigned refl (omega arith)
-            ∙ get_or-replicate extra (lit - 2 - length truths) Unassigned Unassigned (omega arith) in
+        get_or-append_right truths (replicate extra Unassigned) (length truths) (lit - 2) Unassigned refl (omega arith)
+        ∙ get_or-replicate extra (lit - 2 - length truths) Unassigned Unassigned (omega arith) in
         subst (HasTruth trues lit) (sym is) (beyond truths standings trues depth vars lit t far)

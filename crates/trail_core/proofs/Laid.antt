@@ -1,18 +1,18 @@
 -- The trail's own fields after each of its steps.
-use Rattle.std.proofs.Common.{◌≡◌, ◌∙◌, ℕ, zero, suc, ◌+◌, ◌-◌, ◌*◌, ◌/◌, ◌%◌, ◌<◌, ◌≤◌, min, max, List, [], ◌∷◌, ◌++◌, map, length, take, set, replicate, Option, refl, ap, subst, sym, arith, get_or}
-use Rattle.std.specs.Prelude.{All, Contains, Result, Ok, Err, OnErr}
-use Rattle.std.proofs.lemmas.List.{length-set, length-append, length-take, length-take-le, take_more, take_more_set, take-set, take-take, take-append-le, get_or_append_left, get_or-take, take_all, length_push, take-map, get_or_read}
+use Rattle.std.proofs.Common.{◌≡◌, ◌∙◌, ℕ, ◌+◌, ◌-◌, ◌*◌, ◌<◌, ◌≤◌, min, List, [], ◌∷◌, ◌++◌, length, take, set, replicate, Option, refl, ap, subst, sym, arith, get_or}
+use Rattle.std.specs.Prelude.{Contains, Result, Ok, Err, OnErr}
+use Rattle.std.proofs.lemmas.List.{length-set, length-take, length-take-le, take_more, take_more_set, take-take, take-append-le, get_or-take, take_all, length_push, get_or_read}
 use Rattle.std.proofs.lemmas.List.Elements.{All-contains, Contains-get_or}
 use Rattle.sat_base.specs.Lit.{variable, opposite, IsLit}
 use Rattle.trail_core.specs.declared.truth.Truth.{Truth}
 use Rattle.trail_core.specs.declared.truth.Truth.TheVariants.{True, False, Unassigned}
 use Rattle.trail_core.specs.declared.standing.Standing.{Standing}
-use Rattle.trail_core.specs.Trail.{Entry, TrailView, lits_of, IsTrail, StandsAt, IsFree, no_entry}
+use Rattle.trail_core.specs.Trail.{Entry, TrailView, lits_of, IsTrail, IsFree, no_entry}
 use Rattle.trail_core.specs.UnderTrail.{IsUnassigned}
 use Rattle.trail_core.specs.Truth.{HasTruth}
 use Rattle.trail_core.specs.Standing.{place_of, reason_of, IsStandingOf}
-use Rattle.trail_core.specs.Layout.{places, truth_at, standing_at, entry_of, AreTables, IsLaidOut}
-use Rattle.trail_core.proofs.Views.{entries_of, lits_of-entries, length-entries, trail_from, index_in, beyond, free_from, standing_found}
+use Rattle.trail_core.specs.Layout.{places, truth_at, standing_at, AreTables, IsLaidOut}
+use Rattle.trail_core.proofs.Views.{entries_of, lits_of-entries, index_in, standing_found}
 use Rattle.trail_core.proofs.Push.{with_truths, IsPush, pushed, entries_pushed}
 use Rattle.trail_core.proofs.Pop.{popped}
 use Rattle.trail_core.proofs.Grow.{KeepsStandings, wider, wider_entries, more_vars}
@@ -50,7 +50,7 @@ pub room : (truths : List Truth) (standings : List Standing) (lits : List ℕ) (
 room truths standings lits count depth vars lit laid new =
     let standing : Standing = record { reason = 0; level = depth; mark = 2 * count } in
     let t = pushed truths standings (take count lits) depth vars lit standing laid.tables
-        (push_of truths standings lits count depth vars lit standing laid new (omega arith) refl) in
+    (push_of truths standings lits count depth vars lit standing laid new (omega arith) refl) in
     omega (arith, t.counted, t.value_places, length_push (take count lits) lit, length-trues truths standings lits count depth vars laid)
 
 -- after the writes of an assignment
@@ -83,7 +83,7 @@ entries_laid_pushed truths standings lits count depth vars lit var standing reas
 pub laid_popped : (truths : List Truth) (standings : List Standing) (lits : List ℕ) (count depth vars last code other : ℕ) → IsLaidOut truths standings lits count depth vars → 0 < count → last ≡ get_or lits (count - 1) 0 → code ≡ last → other ≡ opposite last → IsLaidOut (set (set truths (code - 2) Unassigned) (other - 2) Unassigned) standings lits (count - 1) depth vars
 laid_popped truths standings lits count depth vars last code other laid some last_is code_is other_is =
     let trues : take count lits ≡ take (count - 1) lits ++ last ∷ [] =
-        ap (λ n. take n lits) (omega arith) ∙ take_more lits (count - 1) 0 (omega (arith, laid.count_within)) ∙ ap (λ l. take (count - 1) lits ++ l ∷ []) (sym last_is) in
+    ap (λ n. take n lits) (omega arith) ∙ take_more lits (count - 1) 0 (omega (arith, laid.count_within)) ∙ ap (λ l. take (count - 1) lits ++ l ∷ []) (sym last_is) in
     let t = popped truths standings (take (count - 1) lits) depth vars last (subst (λ (xs : List ℕ). AreTables truths standings xs depth vars) trues laid.tables) in
     subst (λ n. IsLaidOut (set (set truths (n - 2) Unassigned) (other - 2) Unassigned) standings lits (count - 1) depth vars) (sym code_is)
     (subst (λ n. IsLaidOut (set (set truths (last - 2) Unassigned) (n - 2) Unassigned) standings lits (count - 1) depth vars) (sym other_is)

@@ -1,10 +1,10 @@
 -- Levels along the trail.
-use Rattle.std.proofs.Common.{◌≡◌, ◌∙◌, ℕ, zero, suc, ◌+◌, ◌-◌, ◌<◌, ◌≤◌, List, [], ◌∷◌, ◌++◌, map, length, take, drop, refl, ap, subst, sym, arith, get_or, cond}
+use Rattle.std.proofs.Common.{◌≡◌, ◌∙◌, ℕ, ◌+◌, ◌-◌, ◌<◌, ◌≤◌, List, [], ◌∷◌, ◌++◌, length, take, drop, refl, ap, subst, sym, arith, get_or, cond}
 use Rattle.std.specs.Prelude.{All, nat_le, Bool, true, false}
 use Rattle.std.specs.List.{filter}
 use Rattle.std.proofs.lemmas.Bool.{le-leb, lt-leb}
-use Rattle.std.proofs.lemmas.List.{append-nil, take-append-drop, get_or-drop, get_or-take, length-drop, get_or-map, length-map}
-use Rattle.std.proofs.lemmas.List.Elements.{All-from_get_or, All-get_or, filter-append, All-head, All-tail, All-map}
+use Rattle.std.proofs.lemmas.List.{append-nil, take-append-drop, get_or-drop, length-drop, get_or-map, length-map}
+use Rattle.std.proofs.lemmas.List.Elements.{All-from_get_or, filter-append, All-head, All-tail, All-map}
 use Rattle.trail_core.specs.declared.truth.Truth.{Truth}
 use Rattle.trail_core.specs.declared.standing.Standing.{Standing}
 use Rattle.sat_base.specs.Lit.{variable}
@@ -36,7 +36,7 @@ pub up_to_front : (level : ℕ) (entries : List Entry) (n : ℕ) → n ≤ lengt
 up_to_front level entries n within below above =
     let p : Entry → Bool = λ e. nat_le e.level level in
     let rest : All (λ e. p e ≡ false) (drop n entries) = All-from_get_or (λ (e : Entry). p e ≡ false) (drop n entries) no_entry
-        (λ k lt. lt-leb _ _ (subst (λ (e : Entry). level < e.level) (sym (get_or-drop n entries k no_entry)) (above (n + k) (omega arith) (omega (arith, lt, length-drop n entries))))) in
+    (λ k lt. lt-leb _ _ (subst (λ (e : Entry). level < e.level) (sym (get_or-drop n entries k no_entry)) (above (n + k) (omega arith) (omega (arith, lt, length-drop n entries))))) in
     ap (filter p) (sym (take-append-drop n entries))
     ∙ filter-append p (take n entries) (drop n entries)
     ∙ ap (λ xs. xs ++ filter p (drop n entries)) (filter_all p (take n entries) (λ k d lt. le-leb _ _ (below k d lt)))

@@ -1,18 +1,18 @@
 -- The last literal taken off the trail.
-use Rattle.std.proofs.Common.{◌≡◌, ◌∙◌, ℕ, zero, suc, ◌+◌, ◌-◌, ◌*◌, ◌/◌, ◌%◌, ◌<◌, ◌≤◌, min, List, [], ◌∷◌, ◌++◌, map, length, take, set, cond, refl, ap, subst, sym, inl, inr, arith, get_or}
-use Rattle.std.specs.Prelude.{◌⊎◌, All, Contains, count_by}
-use Rattle.std.proofs.lemmas.Bool.{cases_eq, cases_lt}
-use Rattle.std.proofs.lemmas.List.{length-set, length_push, get_or-set_same, get_or-set_other, get_or_push, get_or_append_left, take_more}
-use Rattle.std.proofs.lemmas.List.Elements.{All-contains, Contains-get_or, Contains-push, Contains-push_cases, Contains-append_left}
+use Rattle.std.proofs.Common.{◌≡◌, ◌∙◌, ℕ, ◌+◌, ◌-◌, ◌*◌, ◌<◌, ◌≤◌, List, [], ◌∷◌, ◌++◌, length, set, cond, refl, ap, subst, sym, inl, inr, arith, get_or}
+use Rattle.std.specs.Prelude.{◌⊎◌, Contains, count_by}
+use Rattle.std.proofs.lemmas.Bool.{cases_eq}
+use Rattle.std.proofs.lemmas.List.{length-set, length_push, get_or-set_other, get_or_push, get_or_append_left}
+use Rattle.std.proofs.lemmas.List.Elements.{All-contains, Contains-push, Contains-push_cases, Contains-append_left}
 use Rattle.std.proofs.lemmas.List.Sums.{sum_by-set}
 use Rattle.sat_base.specs.Lit.{variable, opposite}
 use Rattle.trail_core.specs.declared.truth.Truth.{Truth}
 use Rattle.trail_core.specs.declared.truth.Truth.TheVariants.{True, False, Unassigned}
 use Rattle.trail_core.specs.declared.standing.Standing.{Standing}
-use Rattle.trail_core.specs.UnderTrail.{IsTrueLit, IsFalseLit, IsUnassigned}
+use Rattle.trail_core.specs.UnderTrail.{IsUnassigned}
 use Rattle.trail_core.specs.Truth.{HasTruth, is_unassigned}
 use Rattle.trail_core.specs.Standing.{place_of}
-use Rattle.trail_core.specs.Layout.{places, truth_at, standing_at, AreTables}
+use Rattle.trail_core.specs.Layout.{truth_at, standing_at, AreTables}
 use Rattle.trail_core.proofs.Views.{one_place, consistent, place_in}
 use Rattle.trail_core.proofs.Push.{with_truths, length-with_truths, truth_here, truth_opposite, truth_other}
 
@@ -54,7 +54,7 @@ last_alone truths standings trues depth vars lit m t here e =
     let size : length all ≡ length trues + 1 = length_push trues lit in
     let last : get_or all (length trues) 0 ≡ lit = get_or_push trues lit 0 (length trues) refl in
     let same_var : variable (get_or all p.0 0) ≡ variable (get_or all (length trues) 0) =
-        ap variable (get_or_append_left trues (lit ∷ []) 0 p.0 p.1 ∙ p.2) ∙ e ∙ ap variable (sym last) in
+    ap variable (get_or_append_left trues (lit ∷ []) 0 p.0 p.1 ∙ p.2) ∙ e ∙ ap variable (sym last) in
     let same : p.0 ≡ length trues = one_place truths standings all depth vars p.0 (length trues) t (omega (arith, size, p.1)) (omega (arith, size)) same_var in
     omega (arith, same, p.1)
 
@@ -69,9 +69,10 @@ popped truths standings trues depth vars lit t = record {
   value_places = size ∙ t.value_places;
   standing_places = t.standing_places;
   valued = λ m low m_in. valued_at m low (omega (arith, m_in, size)) (cases_eq m lit) (cases_eq m (opposite lit));
-  within = λ k d lt. let h = t.within k d (omega (arith, lt, all_size)) in
-      (subst (λ l. 2 ≤ l) (get_or_append_left trues (lit ∷ []) d k lt) h.0,
-      omega (arith, h.1, size, get_or_append_left trues (lit ∷ []) d k lt));
+  within = λ k d lt. let h = t.within k d (omega (arith, lt, all_size)) in (
+    subst (λ l. 2 ≤ l) (get_or_append_left trues (lit ∷ []) d k lt) h.0,
+    omega (arith, h.1, size, get_or_append_left trues (lit ∷ []) d k lt),
+  );
   placed = λ place lt. ap (λ l. place_of (standing_at standings (variable l))) (sym (old place lt)) ∙ t.placed place (omega (arith, lt, all_size));
   ascending = λ i j le lt.
       let h = t.ascending i j le (omega (arith, lt, all_size)) in
@@ -85,18 +86,25 @@ popped truths standings trues depth vars lit t = record {
   where
     all : List ℕ
     all = trues ++ lit ∷ []
+
     size : length (with_truths truths lit Unassigned Unassigned) ≡ length truths
     size = length-with_truths truths lit Unassigned Unassigned
+
     all_size : length all ≡ length trues + 1
     all_size = length_push trues lit
+
     old : (place : ℕ) → place < length trues → get_or all place 0 ≡ get_or trues place 0
     old place lt = get_or_append_left trues (lit ∷ []) 0 place lt
+
     here : Contains all lit
     here = Contains-push trues lit
+
     bounds : (2 ≤ lit) × (lit < 2 + length truths)
     bounds = All-contains (λ (l : ℕ). (2 ≤ l) × (l < 2 + length truths)) all lit t.within here
+
     opposite_high : opposite lit < 2 + length truths
     opposite_high = omega (arith, bounds.0, bounds.1, t.value_places)
+
     valued_at : (m : ℕ) → 2 ≤ m → m < 2 + length truths → (m ≡ lit) ⊎ (m ≡ lit → ⊥) → (m ≡ opposite lit) ⊎ (m ≡ opposite lit → ⊥) → HasTruth trues m (truth_at (with_truths truths lit Unassigned Unassigned) m)
     valued_at m low high (inl e) _ =
         let is : truth_at (with_truths truths lit Unassigned Unassigned) m ≡ Unassigned = ap (truth_at (with_truths truths lit Unassigned Unassigned)) e ∙ truth_here truths lit Unassigned Unassigned bounds.0 bounds.1 in
@@ -106,6 +114,7 @@ popped truths standings trues depth vars lit t = record {
         subst (HasTruth trues m) (sym is) (last_free truths standings trues depth vars lit m t (omega (arith, e)))
     valued_at m low high (inr n) (inr o) =
         subst (HasTruth trues m) (sym (truth_other truths lit Unassigned Unassigned m bounds.0 low n o)) (fewer_truth trues lit m (truth_at truths m) n o (t.valued m low high))
+
     counted : count_by is_unassigned (with_truths truths lit Unassigned Unassigned) + 2 * length trues ≡ length truths
     counted =
         let f : Truth → ℕ = λ x. cond (is_unassigned x) 1 0 in

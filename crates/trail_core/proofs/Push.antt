@@ -1,6 +1,6 @@
 -- One more literal on the trail.
-use Rattle.std.proofs.Common.{◌≡◌, ◌∙◌, ℕ, zero, suc, ◌+◌, ◌-◌, ◌*◌, ◌/◌, ◌%◌, ◌<◌, ◌≤◌, min, List, [], ◌∷◌, ◌++◌, map, length, take, set, cond, refl, ap, subst, sym, inl, inr, arith, get_or}
-use Rattle.std.specs.Prelude.{◌⊎◌, All, Contains, count_by}
+use Rattle.std.proofs.Common.{◌≡◌, ◌∙◌, ℕ, ◌+◌, ◌-◌, ◌*◌, ◌<◌, ◌≤◌, List, [], ◌∷◌, ◌++◌, length, set, cond, refl, ap, subst, sym, inl, inr, arith, get_or}
+use Rattle.std.specs.Prelude.{◌⊎◌, Contains, count_by}
 use Rattle.std.proofs.lemmas.Bool.{cases_eq, cases_lt}
 use Rattle.std.proofs.lemmas.List.{length-set, length_push, get_or-set_same, get_or-set_other, get_or_push, get_or_append_left, same_lists, get_or-map, map_push}
 use Rattle.std.proofs.lemmas.List.Elements.{All-push, All-contains, All-get_or, Contains-get_or, Contains-push, Contains-push_cases, Contains-append_left}
@@ -9,11 +9,11 @@ use Rattle.sat_base.specs.Lit.{variable, opposite}
 use Rattle.trail_core.specs.declared.truth.Truth.{Truth}
 use Rattle.trail_core.specs.declared.truth.Truth.TheVariants.{True, False, Unassigned}
 use Rattle.trail_core.specs.declared.standing.Standing.{Standing}
-use Rattle.trail_core.specs.Trail.{Entry, entry_at, lits_of}
+use Rattle.trail_core.specs.Trail.{Entry}
 use Rattle.trail_core.specs.UnderTrail.{IsTrueLit, IsFalseLit, IsUnassigned}
 use Rattle.trail_core.specs.Truth.{HasTruth, is_unassigned}
 use Rattle.trail_core.specs.Standing.{place_of, reason_of}
-use Rattle.trail_core.specs.Layout.{places, truth_at, standing_at, entry_of, AreTables}
+use Rattle.trail_core.specs.Layout.{truth_at, standing_at, entry_of, AreTables}
 use Rattle.trail_core.proofs.Views.{entries_of, length-entries, same_variable}
 
 -- the truth values where this literal has one and its opposite has another
@@ -49,6 +49,7 @@ more_truth trues lit m Unassigned n o h = record {
     old : Contains trues m ⊎ (lit ≡ m) → ⊥
     old (inl c) = h.not_true (record { stands = c })
     old (inr e) = n (sym e)
+
     old_opposite : Contains trues (opposite m) ⊎ (lit ≡ opposite m) → ⊥
     old_opposite (inl c) = h.not_false (record { stands = c })
     old_opposite (inr e) = o (omega arith)
@@ -108,6 +109,7 @@ truths_pushed truths standings trues depth vars lit standing t push m low high =
   where
     new : List ℕ
     new = trues ++ lit ∷ []
+
     at : (m ≡ lit) ⊎ (m ≡ lit → ⊥) → (m ≡ opposite lit) ⊎ (m ≡ opposite lit → ⊥) → HasTruth new m (truth_at (with_truths truths lit True False) m)
     at (inl e) _ =
         let is : truth_at (with_truths truths lit True False) m ≡ True = ap (truth_at (with_truths truths lit True False)) e ∙ truth_here truths lit True False push.low push.high in
@@ -139,31 +141,41 @@ pushed truths standings trues depth vars lit standing t push = record {
   where
     new : List Standing
     new = set standings (variable lit - 1) standing
+
     all : List ℕ
     all = trues ++ lit ∷ []
+
     size : length (with_truths truths lit True False) ≡ length truths
     size = length-with_truths truths lit True False
+
     old : (m : ℕ) → Contains trues m → standing_at new (variable m) ≡ standing_at standings (variable m)
     old = old_standing truths standings trues depth vars lit standing t push
+
     here : standing_at new (variable lit) ≡ standing
     here = new_standing truths standings trues depth vars lit standing t push
+
     old_at : (place : ℕ) → place < length trues → standing_at new (variable (get_or all place 0)) ≡ standing_at standings (variable (get_or trues place 0))
     old_at place lt =
         ap (λ l. standing_at new (variable l)) (get_or_append_left trues (lit ∷ []) 0 place lt)
         ∙ old (get_or trues place 0) (Contains-get_or trues place 0 lt)
+
     last_at : (place : ℕ) → place ≡ length trues → standing_at new (variable (get_or all place 0)) ≡ standing
     last_at place e = ap (λ l. standing_at new (variable l)) (get_or_push trues lit 0 place (sym e)) ∙ here
+
     placed_at : (place : ℕ) → (place < length trues) ⊎ (length trues ≤ place) → place < length all → place_of (standing_at new (variable (get_or all place 0))) ≡ place
     placed_at place (inl lt) _ = ap place_of (old_at place lt) ∙ t.placed place lt
     placed_at place (inr ge) lt =
         let e : place ≡ length trues = omega (arith, ge, lt, length_push trues lit) in
         ap place_of (last_at place e) ∙ push.place ∙ sym e
+
     level_old : (place : ℕ) → place < length trues → (standing_at new (variable (get_or all place 0))).level ≤ depth
     level_old place lt =
         let h = All-get_or (λ (l : ℕ). (standing_at standings (variable l)).level ≤ depth) trues place 0 lt t.below in
         omega (arith, h, ap (λ s. s.level) (old_at place lt))
+
     level_last : (place : ℕ) → length trues ≤ place → place < length all → (standing_at new (variable (get_or all place 0))).level ≡ depth
     level_last place ge lt = ap (λ s. s.level) (last_at place (omega (arith, ge, lt, length_push trues lit))) ∙ push.level
+
     ascends : (i j : ℕ) → i ≤ j → (i < length trues) ⊎ (length trues ≤ i) → (j < length trues) ⊎ (length trues ≤ j) → j < length all → (standing_at new (variable (get_or all i 0))).level ≤ (standing_at new (variable (get_or all j 0))).level
     ascends i j le _ (inl j_old) lt =
         let h = t.ascending i j le j_old in

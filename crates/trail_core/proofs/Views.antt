@@ -1,20 +1,20 @@
 -- What the tables of a trail say of its entries.
-use Rattle.std.proofs.Common.{◌≡◌, ◌∙◌, ℕ, zero, suc, ◌+◌, ◌-◌, ◌*◌, ◌/◌, ◌%◌, ◌<◌, ◌≤◌, min, List, [], ◌∷◌, ◌++◌, map, length, take, refl, ap, subst, sym, inl, inr, arith, get_or}
-use Rattle.std.specs.Prelude.{◌⊎◌, Bool, true, false, All, Contains, count_by}
+use Rattle.std.proofs.Common.{◌≡◌, ◌∙◌, ℕ, ◌+◌, ◌*◌, ◌<◌, ◌≤◌, List, [], ◌∷◌, map, length, refl, ap, subst, sym, inl, inr, arith, get_or}
+use Rattle.std.specs.Prelude.{◌⊎◌, true, false, Contains}
 use denote.Enum.Bare.{sameb}
 use Rattle.trail_core.specs.contracts.truth.Truth.{the_type}
-use Rattle.std.proofs.lemmas.Bool.{cases_eq, cases_lt}
+use Rattle.std.proofs.lemmas.Bool.{cases_eq}
 use Rattle.std.proofs.lemmas.List.{length-map, get_or-map, get_or_default}
-use Rattle.std.proofs.lemmas.List.Elements.{All-map, All-weaker, All-from_get_or, All-contains, Contains-get_or}
+use Rattle.std.proofs.lemmas.List.Elements.{All-map, All-weaker, All-contains, Contains-get_or}
 use Rattle.sat_base.specs.Lit.{variable, opposite}
 use Rattle.trail_core.specs.declared.truth.Truth.{Truth}
 use Rattle.trail_core.specs.declared.truth.Truth.TheVariants.{True, False, Unassigned}
 use Rattle.trail_core.specs.declared.standing.Standing.{Standing}
-use Rattle.trail_core.specs.Trail.{Entry, TrailView, no_entry, entry_at, lits_of, StandsAt, IsFree, IsTrail}
-use Rattle.trail_core.specs.UnderTrail.{IsTrueLit, IsFalseLit, IsUnassigned}
+use Rattle.trail_core.specs.Trail.{Entry, no_entry, entry_at, lits_of, StandsAt, IsFree, IsTrail}
+use Rattle.trail_core.specs.UnderTrail.{IsUnassigned}
 use Rattle.trail_core.specs.Truth.{HasTruth}
 use Rattle.trail_core.specs.Standing.{place_of, reason_of, IsStandingOf}
-use Rattle.trail_core.specs.Layout.{places, truth_at, standing_at, entry_of, AreTables}
+use Rattle.trail_core.specs.Layout.{standing_at, entry_of, AreTables}
 
 -- literals of one variable are equal or opposite
 pub same_variable : (a b : ℕ) → variable a ≡ variable b → (a ≡ b) ⊎ (a ≡ opposite b)

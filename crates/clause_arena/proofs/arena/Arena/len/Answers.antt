@@ -1,4 +1,4 @@
-use Rattle.std.proofs.Common.{◌<◌, ℕ, arith, ap, sym, subst, length}
+use Rattle.std.proofs.Common.{arith, ap, sym, subst, length}
 use Rattle.std.proofs.lemmas.List.Elements.{All-from_get_or}
 use Rattle.clause_arena.specs.Arena.{ArenaClause, HasNoRepeat, no_clause}
 use Rattle.clause_arena.proofs.Laid.{length-laid_clauses, known}

@@ -1,4 +1,4 @@
-use Rattle.std.proofs.Common.{◌≡◌, ◌∙◌, ◌≤◌, ap, sym, subst, arith, rules, length, List, ℕ}
+use Rattle.std.proofs.Common.{◌∙◌, ◌≤◌, ap, sym, subst, arith, rules, length, List, ℕ}
 use Rattle.std.specs.Prelude.{slice_range}
 use Rattle.clause_arena.specs.Arena.{HasNoRepeat}
 use Rattle.clause_arena.proofs.Laid.{known, cut_of}

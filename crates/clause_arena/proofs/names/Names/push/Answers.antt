@@ -1,7 +1,7 @@
-use Rattle.std.proofs.Common.{◌≡◌, ◌∙◌, List, ap, refl, map}
+use Rattle.std.proofs.Common.{◌∙◌, List, ap, refl, map}
 use Rattle.clause_arena.specs.declared.names.Name.{Name}
 use Rattle.clause_arena.specs.Naming.{named}
-use Rattle.clause_arena.proofs.NameLists.{IsLonger, names_kept, names_pushed}
+use Rattle.clause_arena.proofs.NameLists.{names_kept, names_pushed}
 use Rattle.clause_arena.proofs.Laid.{on_err}
 use Rattle.clause_arena.proofs.names.Names.push.Goals as goal
 

@@ -1,8 +1,8 @@
-use Rattle.std.proofs.Common.{◌≡◌, ◌∙◌, ◌≤◌, ℕ, ◌+◌, List, ◌∷◌, ◌++◌, [], ap, subst, sym, arith}
+use Rattle.std.proofs.Common.{◌∙◌, ◌≤◌, ℕ, List, ◌∷◌, ◌++◌, [], ap, subst, sym, arith}
 use Rattle.sat_base.specs.Lit.{variable}
 use Rattle.trail_core.specs.Trail.{Entry}
 use Rattle.trail_core.specs.UnderTrail.{IsUnassigned}
-use Rattle.trail_core.proofs.Laid.{IsAssignable, trues_are, room, laid_pushed, entries_laid_pushed}
+use Rattle.trail_core.proofs.Laid.{trues_are, room, laid_pushed, entries_laid_pushed}
 use Rattle.trail_core.proofs.trail.Trail.assign.Goals as goal
 
 pub new-requires : goal.new-requires

@@ -1,4 +1,4 @@
-use Rattle.std.proofs.Common.{◌≡◌, ◌∙◌, ◌<◌, ◌≤◌, ℕ, ap, sym, subst, arith, not, length, take, List}
+use Rattle.std.proofs.Common.{◌∙◌, ◌≤◌, ap, sym, subst, arith, not, length, List}
 use Rattle.std.specs.Prelude.{All}
 use Rattle.trail_core.specs.Trail.{Entry}
 use Rattle.trail_core.proofs.Levels.{up_to_front}

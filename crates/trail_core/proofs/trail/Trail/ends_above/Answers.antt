@@ -1,4 +1,4 @@
-use Rattle.std.proofs.Common.{◌≡◌, ◌∙◌, ◌<◌, ◌≤◌, ap, subst, sym, arith, List}
+use Rattle.std.proofs.Common.{◌≤◌, ap, subst, arith, List}
 use Rattle.std.specs.Prelude.{All}
 use Rattle.std.proofs.lemmas.Bool.{not-true, ltb-false}
 use Rattle.trail_core.specs.Trail.{Entry, IsTrail}

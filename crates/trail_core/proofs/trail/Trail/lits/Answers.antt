@@ -1,4 +1,4 @@
-use Rattle.std.proofs.Common.{◌∙◌, ap, sym, subst, take, ℕ, List}
+use Rattle.std.proofs.Common.{◌∙◌, ap, sym, subst, take}
 use Rattle.trail_core.specs.Trail.{IsTrail}
 use Rattle.trail_core.proofs.Views.{trail_from}
 use Rattle.trail_core.proofs.Laid.{trues_are}

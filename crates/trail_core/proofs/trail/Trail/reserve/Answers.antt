@@ -1,4 +1,4 @@
-use Rattle.std.proofs.Common.{◌≡◌, ◌∙◌, ◌≤◌, ℕ, ap, sym, subst, arith, length, take, replicate, vec_len, ◌++◌, ◌*◌, ◌-◌, List}
+use Rattle.std.proofs.Common.{◌∙◌, ap, sym, subst, arith, take, replicate, vec_len, ◌++◌, ◌*◌, ◌-◌, List}
 use Rattle.trail_core.specs.declared.truth.Truth.{Truth}
 use Rattle.trail_core.specs.declared.truth.Truth.TheVariants.{Unassigned}
 use Rattle.trail_core.specs.Layout.{IsLaidOut}

@@ -1,4 +1,4 @@
-use Rattle.std.proofs.Common.{◌≡◌, ◌∙◌, ◌<◌, ◌*◌, ◌-◌, ap, subst, sym, arith, refl, take, List, ℕ}
+use Rattle.std.proofs.Common.{◌≡◌, ◌∙◌, ◌*◌, ◌-◌, ap, subst, sym, arith, refl, take, List}
 use Rattle.trail_core.specs.declared.truth.Truth.TheVariants.{Unassigned}
 use Rattle.trail_core.specs.Trail.{Entry, IsTrail, IsFree}
 use Rattle.trail_core.specs.Truth.{HasTruth}

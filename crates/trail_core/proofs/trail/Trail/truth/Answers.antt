@@ -1,4 +1,4 @@
-use Rattle.std.proofs.Common.{◌≡◌, ◌<◌, ◌-◌, ◌≤◌, ap, sym, subst, arith, length, ℕ, List}
+use Rattle.std.proofs.Common.{◌-◌, ◌≤◌, ap, sym, subst, arith, ℕ, List}
 use Rattle.sat_base.specs.Lit.{variable}
 use Rattle.trail_core.specs.Truth.{HasTruth}
 use Rattle.trail_core.proofs.Views.{index_in}

@@ -1,5 +1,4 @@
-use Rattle.std.proofs.Common.{◌≡◌, ◌<◌, ◌-◌, ap, sym, subst, arith, length, ℕ, List}
-use Rattle.trail_core.specs.declared.truth.Truth.TheVariants.{True, False, Unassigned}
+use Rattle.std.proofs.Common.{◌-◌, sym, subst, arith, ℕ, List}
 use Rattle.trail_core.specs.Trail.{lits_of}
 use Rattle.trail_core.specs.UnderTrail.{IsUnassigned}
 use Rattle.trail_core.specs.Truth.{HasTruth}
