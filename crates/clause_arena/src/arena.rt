@@ -57,7 +57,7 @@ impl Arena {
         let id = self.bounds.len() - 1;
         let start = self.bounds[id] as usize;
         let end = start + lits.len();
-        if end > 0xffff_ffff {
+        if end > u32::MAX as usize {
             return Err(AllocError);
         }
         // What a call that wanted memory left here goes first.

@@ -27,8 +27,8 @@ fn plain_origin(name: Ref) -> Option<Origin>
 {
     match name {
         Ref::Input(number) => Some(Origin::Input(number)),
-        Ref::Own(number) if number <= 0xffff_ffff => Some(Origin::Own(number as u32)),
-        Ref::Shared { packet, step } if step <= 0xffff => Some(Origin::Shared {
+        Ref::Own(number) if number <= u32::MAX as u64 => Some(Origin::Own(number as u32)),
+        Ref::Shared { packet, step } if step <= u16::MAX as u64 => Some(Origin::Shared {
             step: step as u16,
             packet,
         }),
@@ -41,6 +41,8 @@ struct Name {
     origin: Origin,
     tag: u32,
 }
+
+const _: () = prove!(size_of::<Name>() == 12);
 
 /// Tags and origins, seen as the list of them.
 #[derive(Debug, Drop)]
@@ -121,7 +123,7 @@ fn origin_in(listed: &mut Vec<Ref>, name: Ref) -> Result<Origin, AllocError>
         return Ok(plain);
     }
     let place = listed.len();
-    if place > 0xffff_ffff {
+    if place > u32::MAX as usize {
         return Err(AllocError);
     }
     listed.push(name)?;

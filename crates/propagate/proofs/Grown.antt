@@ -1,8 +1,8 @@
 -- Trails that grow by forced literals.
-use Rattle.std.proofs.Common.{◌≡◌, ◌≢◌, ◌∙◌, ℕ, ◌+◌, ◌<◌, ◌≤◌, List, [], ◌∷◌, ◌++◌, length, take, refl, ap, subst, sym, inl, inr, arith, get_or}
+use Rattle.std.proofs.Common.{◌≡◌, ◌≢◌, ◌∙◌, ℕ, ◌+◌, ◌<◌, ◌≤◌, List, [], ◌∷◌, ◌++◌, length, take, refl, ap, subst, sym, inl, inr, arith}
 use Rattle.std.specs.Prelude.{◌⊎◌, Some, None}
 use Rattle.std.proofs.lemmas.Bool.{cases_lt}
-use Rattle.std.proofs.lemmas.List.{length_push, get_or_push, get_or_append_left, take-append-le, take_at, take_all, take-take, get_or-take, length-take-le}
+use Rattle.std.proofs.lemmas.List.{length_push, get_or_push, get_or_append_left, take-append-le, take_at, take_all, take-take, get_or-take}
 use Rattle.trail_core.specs.Trail.{Entry, no_entry, entry_at, lits_of}
 use Rattle.trail_core.specs.UnderTrail.{lits_at, IsUnitClause, IsForced, IsFounded, HasGrown}
 
@@ -40,9 +40,11 @@ grown_push clauses depth old t e grown f level = record {
   where
     size : length (t ++ e ∷ []) ≡ length t + 1
     size = length_push t e
+
     forced_at : (i : ℕ) → length old ≤ i → i < length (t ++ e ∷ []) → (i < length t) ⊎ (length t ≤ i) → IsForced clauses (take i (t ++ e ∷ [])) (entry_at (t ++ e ∷ []) i)
     forced_at i from to (inl lt) = old_forced clauses t e i lt (grown.forced i from lt)
     forced_at i from to (inr ge) = new_forced clauses t e i (omega (arith, size)) f
+
     level_at : (i : ℕ) → length old ≤ i → i < length (t ++ e ∷ []) → (i < length t) ⊎ (length t ≤ i) → (entry_at (t ++ e ∷ []) i).level ≡ depth
     level_at i from to (inl lt) = ap (λ x. x.level) (old_entry t e i lt) ∙ grown.level i from lt
     level_at i from to (inr ge) = ap (λ x. x.level) (new_entry t e i (omega (arith, size))) ∙ level
@@ -57,13 +59,16 @@ grown_twice clauses depth old mid new a b = record {
   where
     same : (i : ℕ) → i < length mid → entry_at new i ≡ entry_at mid i
     same i lt = sym (get_or-take (length mid) new i no_entry lt) ∙ ap (λ (xs : List Entry). entry_at xs i) b.before
+
     front : (i : ℕ) → i < length mid → take i new ≡ take i mid
     front i lt = sym (take-take i (length mid) new (omega arith)) ∙ ap (take i) b.before
+
     forced_at : (i : ℕ) → length old ≤ i → i < length new → (i < length mid) ⊎ (length mid ≤ i) → IsForced clauses (take i new) (entry_at new i)
     forced_at i from to (inl lt) =
         subst (λ (x : Entry). IsForced clauses (take i new) x) (sym (same i lt))
         (subst (λ (xs : List Entry). IsForced clauses xs (entry_at mid i)) (sym (front i lt)) (a.forced i from lt))
     forced_at i from to (inr ge) = b.forced i ge to
+
     level_at : (i : ℕ) → length old ≤ i → i < length new → (i < length mid) ⊎ (length mid ≤ i) → (entry_at new i).level ≡ depth
     level_at i from to (inl lt) = ap (λ x. x.level) (same i lt) ∙ a.level i from lt
     level_at i from to (inr ge) = b.level i ge to
@@ -80,8 +85,10 @@ founded_push clauses t depth e founded f level = record {
   where
     all : List Entry
     all = t ++ e ∷ []
+
     size : length all ≡ length t + 1
     size = length_push t e
+
     first_at : (i : ℕ) → i < length all → 0 < (entry_at all i).level → ((k : ℕ) → k < i → (entry_at all k).level ≢ (entry_at all i).level) → (i < length t) ⊎ (length t ≤ i) → (entry_at all i).reason ≡ None
     first_at i lt above alone (inl old) =
         let here = old_entry t e i old in
@@ -91,6 +98,7 @@ founded_push clauses t depth e founded f level = record {
         let here = ap (λ x. x.level) (new_entry t e i (omega (arith, size))) ∙ level in
         let b = founded.begun depth (omega (arith, above, here)) (omega arith) in
         absurd (alone b.0 (omega (arith, b.1)) (ap (λ x. x.level) (old_entry t e b.0 b.1) ∙ b.2 ∙ sym here))
+
     other_at : (i k : ℕ) → i < length all → 0 < (entry_at all i).level → k < i → (entry_at all k).level ≡ (entry_at all i).level → (i < length t) ⊎ (length t ≤ i) → IsForced clauses (take i all) (entry_at all i)
     other_at i k lt above before same (inl old) =
         let here = ap (λ x. x.level) (old_entry t e i old) in

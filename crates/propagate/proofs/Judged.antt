@@ -1,13 +1,13 @@
 -- What the literals of a clause say of it.
-use Rattle.std.proofs.Common.{◌≡◌, ◌≢◌, ◌∙◌, ℕ, ◌+◌, ◌<◌, ◌≤◌, List, length, refl, ap, subst, sym, inl, inr, arith, get_or}
-use Rattle.std.specs.Prelude.{◌⊎◌, All, Contains, Option, None, Some, Bool, true, false, is_some}
+use Rattle.std.proofs.Common.{◌≡◌, ◌≢◌, ◌∙◌, ℕ, ◌+◌, ◌<◌, ◌≤◌, List, length, ap, subst, sym, inl, inr, arith, get_or}
+use Rattle.std.specs.Prelude.{◌⊎◌, Contains, Option, None, Some, true, false, is_some}
 use Rattle.std.proofs.lemmas.Bool.{cases_eq, cases_lt}
 use Rattle.std.proofs.lemmas.List.{get_or_default}
 use Rattle.std.proofs.lemmas.List.Elements.{All-from_get_or, All-contains, Contains-get_or}
 use Rattle.sat_base.specs.Lit.{opposite}
 use Rattle.clause_arena.specs.Arena.{HasNoRepeat}
-use Rattle.trail_core.specs.UnderTrail.{IsTrueLit, IsFalseLit, IsUnassigned, IsFalseClause, HasOthersFalse, IsUnitClause, IsOpenClause}
-use Rattle.propagate.specs.Scan.{HasOneFree, IsFoundSoFar}
+use Rattle.trail_core.specs.UnderTrail.{IsTrueLit, IsFalseLit, IsUnassigned, IsFalseClause, IsUnitClause, IsOpenClause}
+use Rattle.propagate.specs.Scan.{IsFoundSoFar}
 
 -- no literal is true and false
 abbrev pub IsConsistent : List ℕ → Type 0
@@ -21,6 +21,7 @@ open_by_true trues lits lit consistent stands is_true = record {
   where
     never : IsFalseLit trues lit → ⊥
     never f = consistent lit is_true.stands f.stands
+
     at : (m : ℕ) → IsUnitClause trues lits m → (lit ≡ m) ⊎ (lit ≡ m → ⊥) → ⊥
     at m unit (inl e) = unit.free.not_true (subst (IsTrueLit trues) e is_true)
     at m unit (inr n) = never (unit.rest.others lit stands n)
@@ -33,6 +34,7 @@ open_by_two trues lits p q distinct before within first second = record {
   where
     differ : get_or lits p 0 ≡ get_or lits q 0 → ⊥
     differ e = let same : p ≡ q = distinct.each p q (omega arith) within e in omega arith
+
     at : (m : ℕ) → IsUnitClause trues lits m → (get_or lits p 0 ≡ m) ⊎ (get_or lits p 0 ≡ m → ⊥) → ⊥
     at m unit (inl e) = second.not_false (unit.rest.others (get_or lits q 0) (Contains-get_or lits q 0 within) (λ f. differ (e ∙ sym f)))
     at m unit (inr n) = first.not_false (unit.rest.others (get_or lits p 0) (Contains-get_or lits p 0 (omega arith)) n)

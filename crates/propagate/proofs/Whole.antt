@@ -1,14 +1,14 @@
 -- All clauses of a store.
-use Rattle.std.proofs.Common.{◌≡◌, ◌∙◌, ℕ, ◌+◌, inl, inr, ◌<◌, ◌≤◌, List, [], length, map, refl, ap, subst, sym, arith, get_or}
-use Rattle.std.specs.Prelude.{◌⊎◌, All, Contains}
+use Rattle.std.proofs.Common.{◌≡◌, ℕ, ◌+◌, inl, inr, ◌<◌, ◌≤◌, List, [], length, refl, subst, sym, arith}
+use Rattle.std.specs.Prelude.{◌⊎◌, All}
 use Rattle.std.proofs.lemmas.Bool.{cases_lt}
 use Rattle.std.proofs.lemmas.List.{get_or-map, length-map}
 use Rattle.std.proofs.lemmas.List.Elements.{All-from_get_or, All-contains_itself}
 use Rattle.clause_arena.specs.Arena.{ArenaClause, clause_at, no_clause, lits_of_each}
-use Rattle.trail_core.specs.Trail.{Entry, lits_of, up_to}
+use Rattle.trail_core.specs.Trail.{Entry, lits_of}
 use Rattle.trail_core.specs.UnderTrail.{lits_at, IsOpenClause, IsComplete}
 use Rattle.trail_core.proofs.Levels.{up_to_all}
-use Rattle.propagate.specs.Store.{IsSameClause, HasSameClauses}
+use Rattle.propagate.specs.Store.{HasSameClauses}
 
 pub length-lits_of_each : (clauses : List ArenaClause) → length (lits_of_each clauses) ≡ length clauses
 length-lits_of_each clauses = length-map clauses (λ c. c.lits)
@@ -31,12 +31,12 @@ pub same_clauses : (clauses : List ArenaClause) → HasSameClauses clauses claus
 same_clauses clauses = record {
   count = refl;
   each = λ id lt. record {
-      kept = All-contains_itself (clause_at clauses id).lits;
-      no_more = All-contains_itself (clause_at clauses id).lits;
-      size = refl;
-      tag = refl;
-      origin = refl;
-    };
+    kept = All-contains_itself (clause_at clauses id).lits;
+    no_more = All-contains_itself (clause_at clauses id).lits;
+    size = refl;
+    tag = refl;
+    origin = refl;
+  };
 }
 
 -- one more clause that is open

@@ -1,5 +1,5 @@
 -- What a pass over all clauses finds.
-use Rattle.std.specs.Prelude.{◌≡◌, ℕ, ◌<◌, List, length, All}
+use Rattle.std.specs.Prelude.{ℕ, ◌<◌, List, length, All}
 use Rattle.clause_arena.specs.Arena.{ArenaClause, clause_at, lits_of_each}
 use Rattle.trail_core.specs.Trail.{Entry, lits_of}
 use Rattle.trail_core.specs.UnderTrail.{IsFalseClause, IsOpenClause}

@@ -1,6 +1,6 @@
 //! Propagation that looks at every clause.
 
-ghost use Rattle.std.specs.Prelude.{◌≡◌, ℕ, ◌<◌, ◌≤◌, length, All, IfSome, IfNone, []};
+ghost use Rattle.std.specs.Prelude.{◌≡◌, ℕ, ◌<◌, ◌≤◌, length, All, IfSome, IfNone, IsTrue, []};
 ghost use Rattle.sat_base.specs.Lit.{variable};
 ghost use Rattle.clause_arena.specs.Arena.{HasNoRepeat, clause_at, lits_of_each};
 ghost use Rattle.trail_core.specs.Trail.{IsTrail, lits_of};
@@ -108,8 +108,6 @@ fn judge(lits: &[Lit], trail: &Trail) -> Judgement
     requires distinct { HasNoRepeat lits.now }
     ensures { IsJudged (lits_of trail.now.entries) lits.now result }
 {
-    // The trail tells that no literal is true and false.
-    let _ = trail.depth();
     let mut free: Option<Lit> = None;
     for lit in lits {
         match trail.truth(*lit) {
@@ -126,5 +124,97 @@ fn judge(lits: &[Lit], trail: &Trail) -> Judgement
     match free {
         None => Judgement::False,
         Some(lit) => Judgement::Unit(lit),
+    }
+}
+
+#[cfg(test)]
+mod tests {
+    use super::*;
+    use sat_base::{Clause, Ref};
+    use std::alloc::{AllocError, Global};
+    use std::process::Abort;
+    use std::test::Fail;
+
+    const VARS: u32 = 6;
+
+    fn is_small(clause: &Clause) -> bool
+        ensures { IsTrue result → AreWithin 6 clause.now }
+    {
+        clause.lits().iter().all(|lit| lit.var() <= 6)
+    }
+
+    // Adds a clause over the variables 1 to 6.
+    fn add(
+        rt: &impl Abort,
+        alloc: Global,
+        store: &mut Store,
+        numbers: &[i32],
+    ) -> Result<usize, AllocError>
+        requires { store.old.vars ≡ 6 }
+        ensures { store.new.vars ≡ 6 }
+    {
+        let mut lits = Vec::new(alloc);
+        for number in numbers {
+            lits.push(Lit::of(*number).expect(rt, "a literal"))?;
+        }
+        let clause = Clause::from_lits(alloc, &lits)?;
+        let small = is_small(&clause);
+        assert!(rt; small);
+        store.add(&clause, 1, Ref::Input(1))
+    }
+
+    // Propagates over the variables 1 to 6.
+    fn run(store: &mut Store, trail: &mut Trail) -> Option<usize>
+        requires store { store.old.vars ≡ 6 }
+        requires trail { trail.old.vars ≡ 6 }
+        ensures store { store.new.vars ≡ 6 }
+        ensures trail { trail.new.vars ≡ 6 }
+        ensures known { IfSome result (λ id. id < length store.new.clauses) }
+    {
+        let _ = store.arena();
+        let _ = trail.depth();
+        propagate(store, trail)
+    }
+
+    // Three pigeons in two holes: no clause forces anything, and each first decision ends in a false clause.
+    #[test]
+    fn pigeons_conflict_after_one_decision(rt: HostRuntime) -> Result<(), Fail> {
+        let alloc = rt.alloc();
+        let mut store = Store::new(alloc);
+        let mut trail = Trail::new(alloc);
+        store.reserve(VARS)?;
+        trail.reserve(VARS)?;
+        let pairs = [
+            [1, 2],
+            [3, 4],
+            [5, 6],
+            [-1, -3],
+            [-1, -5],
+            [-3, -5],
+            [-2, -4],
+            [-2, -6],
+            [-4, -6],
+        ];
+        for (id, pair) in pairs.iter().enumerate() {
+            assert_eq!(rt; add(&rt, alloc, &mut store, pair.as_slice())?, id);
+        }
+        assert_eq!(rt; run(&mut store, &mut trail), None);
+        assert_eq!(rt; trail.lits().len(), 0);
+        assert!(rt; trail.depth() < VARS);
+        trail.open_level();
+        let decision = Lit::of(1).expect(&rt, "a literal");
+        match trail.truth(decision) {
+            Truth::Unassigned => trail.assign(decision, None),
+            _ => panic!(&rt; "assigned already"),
+        }
+        match run(&mut store, &mut trail) {
+            None => panic!(&rt; "no clause is false"),
+            Some(id) => {
+                for lit in store.arena().lits(id) {
+                    assert_eq!(rt; trail.value(*lit), Some(false));
+                }
+            }
+        }
+        Ok(())
     }
 }

@@ -52,7 +52,7 @@ impl Store {
         Ok(())
     }
 
-    /// Adds a clause behind the others and answers its number. It may change the places of its literals.
+    /// Adds a clause behind the others and answers its number.
     pub fn add(&mut self, clause: &Clause, tag: u32, origin: Ref) -> Result<usize, AllocError>
         requires { AreWithin self.old.vars clause.now }
         ensures number { IfOk result (λ id. id ≡ length self.old.clauses) }

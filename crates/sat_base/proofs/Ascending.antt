@@ -1,5 +1,5 @@
 -- Strictly ascending lists of literals.
-use Rattle.std.proofs.Common.{◌≡◌, ◌∙◌, ℕ, zero, suc, ◌+◌, ◌-◌, ◌*◌, ◌%◌, ◌<◌, ◌≤◌, List, [], ◌∷◌, length, Bool, true, refl, ap, subst, sym, inl, inr, arith, get_or, eqb}
+use Rattle.std.proofs.Common.{◌≡◌, ◌∙◌, ℕ, zero, suc, ◌+◌, ◌-◌, ◌%◌, ◌<◌, ◌≤◌, List, [], ◌∷◌, length, refl, ap, subst, sym, inl, inr, ⊎_elim, arith, get_or, eqb}
 use Rattle.std.specs.Prelude.{IsTrue, All, Contains, ◌⊎◌, ◌↔◌, IsPermutation, IsSorted}
 use Rattle.std.specs.Ordering.{eq_by_cmp, nat_cmp}
 use Rattle.std.specs.List.{dedup}
@@ -14,7 +14,7 @@ use Rattle.std.proofs.lemmas.List.Kept.{Contains-dedup_nat, Contains-from_dedup,
 use Rattle.std.proofs.lemmas.List.Sorted.{Contains-permutation, IsPermutation-sym}
 use Rattle.std.proofs.lemmas.Bool.Decides.{nat_tests}
 use Rattle.sat_base.specs.Lit.{ascends_above, is_ascending, IsLit, IsLitSet, IsTautology, opposite}
-use Rattle.sat_base.proofs.Members.{All-from_members}
+use Rattle.sat_base.proofs.Members.{All-from_members, Contains-here, Contains-there, Contains-cases}
 use Rattle.sat_base.proofs.Opposite.{opposite-opposite}
 
 cmp_less : (a b : ℕ) → nat_cmp a b ≡ Less → a < b
@@ -97,3 +97,40 @@ no_tautology lits up none both =
     at_places lits both.lit both.has.0 both.has_opposite.0 up none both.has.1 both.has_opposite.1
     (get_or_default lits both.has.0 0 both.lit both.has.1 ∙ both.has.2)
     (get_or_default lits both.has_opposite.0 0 (opposite both.lit) both.has_opposite.1 ∙ both.has_opposite.2)
+
+-- each literal is above the bound
+pub member_above : (bound : ℕ) (lits : List ℕ) (lit : ℕ) → IsTrue (ascends_above bound lits) → Contains lits lit → bound < lit
+member_above bound [] lit up has = absurd (omega (arith, has.1))
+member_above bound (first ∷ lits) lit up has =
+    let first_above : bound < first = ltb-true bound first (and_parts _ _ up).0 in
+    ⊎_elim (λ same. omega arith)
+    (λ later. let h : first < lit = member_above first lits lit (and_parts _ _ up).1 later in omega arith)
+    (Contains-cases first lit lits has)
+
+same_heads : (a b first other : ℕ) (lits others : List ℕ) → IsTrue (ascends_above a (first ∷ lits)) → IsTrue (ascends_above b (other ∷ others)) → (other ≡ first) ⊎ Contains others first → (first ≡ other) ⊎ Contains lits other → first ≡ other
+same_heads a b first other lits others up up' (inl same) back = sym same
+same_heads a b first other lits others up up' (inr later) (inl same) = same
+same_heads a b first other lits others up up' (inr later) (inr later') =
+    let h : other < first = member_above other others first (and_parts _ _ up').1 later in
+    let k : first < other = member_above first lits other (and_parts _ _ up).1 later' in
+    absurd (omega arith)
+
+rest_within : (a first other : ℕ) (lits others : List ℕ) → IsTrue (ascends_above a (first ∷ lits)) → first ≡ other → ((lit : ℕ) → Contains (first ∷ lits) lit → Contains (other ∷ others) lit) → (lit : ℕ) → Contains lits lit → Contains others lit
+rest_within a first other lits others up same within lit has =
+    let above_first : first < lit = member_above first lits lit (and_parts _ _ up).1 has in
+    ⊎_elim (λ is. absurd (omega arith)) (λ later. later)
+    (Contains-cases other lit others (within lit (Contains-there first lit lits has)))
+
+-- sets with the same members are one
+pub same_set : (a b : ℕ) (lits others : List ℕ) → IsTrue (ascends_above a lits) → IsTrue (ascends_above b others) → ((lit : ℕ) → Contains lits lit → Contains others lit) → ((lit : ℕ) → Contains others lit → Contains lits lit) → lits ≡ others
+same_set a b [] [] up up' within back = refl
+same_set a b [] (other ∷ others) up up' within back = absurd (omega (arith, (back other (Contains-here other others)).1))
+same_set a b (first ∷ lits) [] up up' within back = absurd (omega (arith, (within first (Contains-here first lits)).1))
+same_set a b (first ∷ lits) (other ∷ others) up up' within back =
+    let same : first ≡ other = same_heads a b first other lits others up up'
+    (Contains-cases other first others (within first (Contains-here first lits)))
+    (Contains-cases first other lits (back other (Contains-here other others))) in
+    ap (λ lit. lit ∷ lits) same ∙ ap (λ rest. other ∷ rest)
+    (same_set first other lits others (and_parts _ _ up).1 (and_parts _ _ up').1
+    (rest_within a first other lits others up same within)
+    (rest_within b other first others lits up' (sym same) back))

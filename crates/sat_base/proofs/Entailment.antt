@@ -1,13 +1,12 @@
 -- Truth of literals, clauses and cubes, and what follows for entailment.
-use Rattle.std.proofs.Common.{◌≡◌, ◌∙◌, ℕ, ◌+◌, ◌-◌, ◌*◌, ◌/◌, ◌%◌, ◌<◌, List, [], ◌∷◌, ◌++◌, map, Bool, true, false, not, cond, ◌||◌, ◌&&◌, refl, ap, subst, sym, inl, inr, arith}
-use Rattle.std.specs.Prelude.{IsTrue, All, Contains, ◌⊎◌, ◌==◌}
-use Rattle.std.specs.List.{list_any, list_all, filter}
-use Rattle.std.proofs.lemmas.Bool.{both_ways, and_parts, cases_Bool, ne_eqb, not_from_false, not_from_true}
-use Rattle.std.proofs.lemmas.Bool.Decides.{nat_tests}
+use Rattle.std.proofs.Common.{◌≡◌, ◌∙◌, ℕ, List, [], ◌∷◌, ◌++◌, map, Bool, true, false, not, cond, ◌||◌, ◌&&◌, refl, ap, sym, inl, inr}
+use Rattle.std.specs.Prelude.{IsTrue, Contains, ◌⊎◌, ◌==◌}
+use Rattle.std.specs.List.{filter}
+use Rattle.std.proofs.lemmas.Bool.{both_ways, and_parts, cases_Bool, ne_eqb, not_from_false}
 use Rattle.std.proofs.lemmas.List.Elements.{All-contains, Contains-append_left, Contains-append_right}
 use Rattle.sat_base.specs.Lit.{variable, is_negative, opposite}
-use Rattle.sat_base.specs.Truth.{lit_true, value_of, clause_true, cube_true, all_true, Entails, IsModelOf, IsRefutedPart}
-use Rattle.sat_base.specs.Law.{EntailmentGrows, resolvent, ResolutionIsSound, CubeContradictsItsNegation, TruthSeesMembers, OneAnswer}
+use Rattle.sat_base.specs.Truth.{lit_true, value_of, clause_true, cube_true}
+use Rattle.sat_base.specs.Law.{EntailmentGrows, ResolutionIsSound, CubeContradictsItsNegation, TruthSeesMembers, OneAnswer}
 use Rattle.sat_base.proofs.Opposite.{variable-opposite, is_negative-opposite}
 use Rattle.sat_base.proofs.Members.{any_member, any_from_member, all_member, all_from_members, Contains-filter}
 

@@ -2,3 +2,4 @@ pub mod Members
 pub mod Opposite
 pub mod Ascending
 pub mod Entailment
+pub mod Counting

@@ -1,5 +1,5 @@
 -- Members of a list, and tests of them.
-use Rattle.std.proofs.Common.{◌≡◌, ◌∙◌, ℕ, zero, suc, ◌+◌, ◌<◌, List, [], ◌∷◌, map, length, Bool, true, false, cond, refl, ap, subst, sym, inl, inr, arith, get_or}
+use Rattle.std.proofs.Common.{◌≡◌, ◌∙◌, zero, suc, List, [], ◌∷◌, map, Bool, true, false, cond, refl, ap, subst, sym, inl, inr, arith, get_or}
 use Rattle.std.specs.Prelude.{◌⊎◌, IsTrue, All, Contains}
 use Rattle.std.specs.List.{list_any, list_all, filter}
 use Rattle.std.proofs.lemmas.List.Folds.{Any-from_list_any, list_any_at}

@@ -1,6 +1,6 @@
 -- The literal of the other sign.
-use Rattle.std.proofs.Common.{◌≡◌, ◌∙◌, ℕ, ◌+◌, ◌-◌, ◌*◌, ◌/◌, ◌%◌, ◌<◌, ◌≤◌, List, map, not, ap, subst, sym, arith}
-use Rattle.std.specs.Prelude.{◌==◌, ◌↔◌, Contains}
+use Rattle.std.proofs.Common.{◌≡◌, ◌∙◌, ℕ, List, map, not, ap, subst, sym, arith}
+use Rattle.std.specs.Prelude.{◌↔◌, Contains}
 use Rattle.std.proofs.lemmas.Bool.Decides.{nat_tests}
 use Rattle.sat_base.specs.Lit.{variable, is_negative, opposite, IsLit}
 use Rattle.sat_base.proofs.Members.{Contains-map, Contains-from_map}

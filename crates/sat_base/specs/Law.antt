@@ -1,5 +1,5 @@
 -- Laws of entailment and of right answers.
-use Rattle.std.specs.Prelude.{◌≡◌, ◌≢◌, ℕ, ◌+◌, ◌*◌, ◌^◌, ◌<◌, ◌≤◌, ◌==◌, not, Bool, List, [], ◌∷◌, ◌++◌, map, filter, length, All, Contains, IsTrue, slice_index_or}
+use Rattle.std.specs.Prelude.{◌≡◌, ◌≢◌, ℕ, ◌^◌, ◌≤◌, ◌==◌, not, Bool, List, [], ◌∷◌, ◌++◌, map, filter, length, All, AllPairs, Contains, IsTrue}
 use Rattle.sat_base.specs.Lit.{opposite, variable, is_ascending, IsTautology}
 use Rattle.sat_base.specs.Truth.{clause_true, cube_true, Entails, IsModelOf, IsRefutedPart}
 
@@ -27,10 +27,6 @@ TruthSeesMembers = (values : List Bool) (clause other : List ℕ) → All (Conta
 abbrev pub OneAnswer : Type 0
 OneAnswer = (clauses : List (List ℕ)) (cube : List ℕ) (values : List Bool) (part : List ℕ) → IsModelOf clauses cube values → ¬ IsRefutedPart clauses cube part
 
--- no two items are equal
-abbrev pub AreDistinct : List (List ℕ) → Type 0
-AreDistinct clauses = (i j : ℕ) → i < j → j < length clauses → slice_index_or clauses i [] ≢ slice_index_or clauses j []
-
 -- a strictly ascending clause over variables 1 to the bound that is no tautology
 pub record IsProperClause (variables : ℕ) (clause : List ℕ) : Type 0 where
   pub ascending : IsTrue (is_ascending clause)
@@ -39,4 +35,4 @@ pub record IsProperClause (variables : ℕ) (clause : List ℕ) : Type 0 where
 
 -- There are at most 3^V clauses over V variables: each variable is there with one sign, with the other, or not.
 abbrev pub FewClauses : Type 0
-FewClauses = (variables : ℕ) (clauses : List (List ℕ)) → All (IsProperClause variables) clauses → AreDistinct clauses → length clauses ≤ 3 ^ variables
+FewClauses = (variables : ℕ) (clauses : List (List ℕ)) → All (IsProperClause variables) clauses → AllPairs (λ clause other. clause ≢ other) clauses → length clauses ≤ 3 ^ variables

@@ -1,7 +1,6 @@
 -- Literals by their codes, and sets of literals.
 -- The code is the one that MiniSat and AIGER use: 2v for the positive literal of variable v, 2v + 1 for the negative one.
-use Rattle.std.specs.Prelude.{◌≡◌, ℕ, ℤ, pos, negsuc, ◌+◌, ◌-◌, ◌*◌, ◌/◌, ◌%◌, ◌<◌, ◌≤◌, ◌==◌, ◌&&◌, nat_lt, max, Bool, true, List, [], ◌∷◌, All, Contains, IsTrue}
-use Rattle.std.specs.List.{list_any}
+use Rattle.std.specs.Prelude.{ℕ, ℤ, pos, negsuc, ◌+◌, ◌-◌, ◌*◌, ◌/◌, ◌%◌, ◌<◌, ◌≤◌, ◌==◌, ◌&&◌, nat_lt, max, Bool, true, List, [], ◌∷◌, All, Contains, IsTrue}
 
 -- the code of a whole number with a sign: DIMACS writes v for a positive literal and -v for a negative one
 abbrev pub code_of : ℤ → ℕ

@@ -1,5 +1,5 @@
 -- Truth under an assignment, semantic consequence, and the right answers to a query.
-use Rattle.std.specs.Prelude.{◌≡◌, ℕ, ◌-◌, Bool, false, not, if◌then◌else◌, List, [], ◌∷◌, map, length, All, Contains, IsTrue, slice_index_or}
+use Rattle.std.specs.Prelude.{◌≡◌, ℕ, ◌-◌, Bool, false, not, if◌then◌else◌, List, map, length, All, Contains, IsTrue, slice_index_or}
 use Rattle.std.specs.List.{list_any, list_all}
 use Rattle.sat_base.specs.Lit.{variable, is_negative, opposite, variables}
 

@@ -75,7 +75,8 @@ impl Cube {
 
     /// The literals back, in strictly ascending order. Takes no memory.
     pub fn into_lits(self) -> Vec<Lit>
-        ensures { result.items ≡ self }
+        ensures value { result.items ≡ self }
+        ensures set { IsLitSet self }
     {
         self.lits
     }

@@ -1,6 +1,6 @@
 //! Laws over the definitions alone, each as the contract of a function that does nothing.
 
-ghost use Rattle.sat_base.specs.Law.{CubeContradictsItsNegation, EntailmentGrows, OneAnswer, ResolutionIsSound, TruthSeesMembers};
+ghost use Rattle.sat_base.specs.Law.{CubeContradictsItsNegation, EntailmentGrows, FewClauses, OneAnswer, ResolutionIsSound, TruthSeesMembers};
 
 /// What a list of clauses entails, each list that has these clauses entails too.
 pub fn entailment_grows()
@@ -25,4 +25,9 @@ pub fn truth_sees_members()
 /// No query has both a model and a refuted part.
 pub fn one_answer()
     ensures { OneAnswer }
+{}
+
+/// Different clauses over V variables, none of them a tautology, are at most 3^V.
+pub fn few_clauses()
+    ensures { FewClauses }
 {}

@@ -12,12 +12,14 @@ mod laws;
 mod literal_sets;
 mod literals;
 mod origins;
+#[cfg(test)]
+mod tests;
 
 pub use assignments::Assign;
 pub use clauses::Clause;
 pub use cubes::Cube;
 pub use laws::{
-    cube_contradicts_its_negation, entailment_grows, one_answer, resolution_is_sound,
+    cube_contradicts_its_negation, entailment_grows, few_clauses, one_answer, resolution_is_sound,
     truth_sees_members,
 };
 pub use literals::Lit;

@@ -67,7 +67,7 @@ impl Lit {
         ensures lit { IsLit self }
     {
         let variable = (self.code / 2) as i32;
-        if self.code % 2 == 1 {
+        if self.is_negative() {
             -variable
         } else {
             variable
@@ -88,12 +88,8 @@ impl Lit {
         ensures { result ≡ lit_true values.now self }
     {
         let index = (self.code / 2 - 1) as usize;
-        let value = if index < values.len() {
-            values[index]
-        } else {
-            false
-        };
-        if self.code % 2 == 1 { !value } else { value }
+        let value = values.get(index).copied().unwrap_or(false);
+        if self.is_negative() { !value } else { value }
     }
 
     /// Whether this is the negation of its variable.

@@ -1,6 +1,5 @@
-use Rattle.std.proofs.Common.{◌≡◌, ◌∙◌, ℕ, ap, subst, sym, arith, List}
+use Rattle.std.proofs.Common.{◌∙◌, subst, sym}
 use Rattle.clause_arena.specs.Arena.{lits_of_each}
-use Rattle.trail_core.specs.Trail.{Entry}
 use Rattle.trail_core.specs.UnderTrail.{HasGrown, IsFounded}
 use Rattle.propagate.proofs.Grown.{grown_twice}
 use Rattle.propagate.proofs.Whole.{complete_from}

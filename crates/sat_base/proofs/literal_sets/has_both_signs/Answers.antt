@@ -1,4 +1,4 @@
-use Rattle.std.proofs.Common.{ℕ, sym, subst, arith}
+use Rattle.std.proofs.Common.{arith}
 use Rattle.sat_base.proofs.Ascending.{no_tautology}
 use Rattle.sat_base.proofs.literal_sets.has_both_signs.Goals as goal
 

@@ -1,7 +1,6 @@
-use Rattle.std.proofs.Common.{◌≡◌, List, ℕ, eqb, subst}
-use Rattle.std.specs.Prelude.{All, IsPermutation}
+use Rattle.std.proofs.Common.{List, ℕ, eqb, subst}
+use Rattle.std.specs.Prelude.{IsPermutation}
 use Rattle.std.proofs.lemmas.List.Filters.{dedup_is}
-use Rattle.sat_base.specs.Lit.{IsLit}
 use Rattle.sat_base.proofs.Ascending.{sorted_set, same_members}
 use Rattle.sat_base.proofs.literal_sets.set_of.Goals as goal
 

@@ -1,0 +1,3 @@
+pub mod EachThen
+pub mod Numbers
+pub mod PlainText

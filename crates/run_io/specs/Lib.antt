@@ -1,0 +1,6 @@
+pub mod Bytes
+pub mod Fault
+pub mod MemorySinkState
+pub mod MemorySourceState
+pub mod Script
+pub mod StdSourceState

@@ -1,0 +1,35 @@
+//! The program `tarmo`: makes the real source and sink, calls the run and ends with its status.
+//!
+//! Everything that the program promises is the contract of `run_alone`. It knows no text and no answer.
+#![tactic(auto)]
+
+use run_io::{StdSink, StdSource};
+use std::process::ExitCode;
+use std::{env, io};
+use tarmo_run::run_alone;
+
+const WORDS_REFUSED: u8 = 5;
+
+const NO_MEMORY: u8 = 6;
+
+fn main(rt: HostRuntime) -> ExitCode {
+    let status = match words(&rt) {
+        Ok(words) => {
+            let mut source = StdSource::new(&rt);
+            let mut sink = StdSink::new(&rt);
+            run_alone(rt.alloc(), &words, &mut source, &mut sink)
+        }
+        Err(fault) if fault.kind() == io::ErrorKind::OutOfMemory => NO_MEMORY,
+        // A word that is no UTF-8 is a word all the same.
+        Err(_) => WORDS_REFUSED,
+    };
+    if status == WORDS_REFUSED {
+        let _ = eprintln!(rt; "tarmo: words refused");
+    }
+    ExitCode::from(status)
+}
+
+// The words behind the program's name.
+fn words(rt: &HostRuntime) -> io::Result<Vec<String>> {
+    Ok(env::args(rt)?.skip(1).collect(rt.alloc())?)
+}
