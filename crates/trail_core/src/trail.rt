@@ -44,7 +44,9 @@ impl Model for Trail {
 impl Trail {
     /// A trail at level 0 without literals or reserved variables. Takes no memory.
     pub fn new(alloc: Global) -> Trail
-        ensures { result ≡ record { entries = []; depth = 0; vars = 0 } }
+        ensures entries { result.entries ≡ [] }
+        ensures depth { result.depth ≡ 0 }
+        ensures vars { result.vars ≡ 0 }
     {
         Trail {
             values: Vec::new(alloc),
