@@ -1,0 +1,4 @@
+pub mod Tabulated
+pub mod Laid
+pub mod Swapped
+pub mod NameLists

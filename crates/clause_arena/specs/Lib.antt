@@ -1,0 +1,4 @@
+pub mod Arena
+pub mod Named
+pub mod Naming
+pub mod Layout

@@ -1,0 +1,182 @@
+//! Clauses in one block of memory.
+
+ghost use Rattle.std.specs.Prelude.{◌≡◌, ℕ, ◌<◌, List, [], ◌∷◌, ◌++◌, length, All, IfOk, OnOk, OnErr};
+ghost use Rattle.clause_arena.specs.Arena.{HasNoRepeat, clause_at, with_places_swapped};
+ghost use Rattle.clause_arena.specs.Layout.{begun};
+
+use crate::names::Names;
+use sat_base::{Clause, Lit, Ref};
+use std::alloc::{AllocError, Global};
+use std::marker::Model;
+
+/// Clauses, numbered from 0. Their literals stand one clause behind another in one block, four bytes each,
+/// and the clause of number `id` is what lies between the bounds `id` and `id + 1`. So a clause takes
+/// sixteen bytes besides its literals: four for a bound, four for its tag, eight for its origin.
+/// Contracts see an arena as the list of its clauses.
+#[derive(Debug, Drop)]
+pub struct Arena {
+    lits: Vec<Lit>,
+    bounds: Vec<u32>,
+    names: Names,
+}
+
+impl Model for Arena {
+    ghost use Rattle.std.specs.Prelude.{List};
+    ghost use Rattle.clause_arena.specs.Arena.{ArenaClause};
+
+    ghost Value = { List ArenaClause };
+
+    ghost use Rattle.clause_arena.specs.Layout.{clauses_of, IsArena};
+
+    ghost view = { clauses_of };
+
+    ghost invariant = { IsArena };
+}
+
+impl Arena {
+    /// An arena without clauses. Takes no memory.
+    pub fn new(alloc: Global) -> Arena
+        ensures { result ≡ [] }
+    {
+        Arena {
+            lits: Vec::new(alloc),
+            bounds: Vec::new(alloc),
+            names: Names::new(alloc),
+        }
+    }
+
+    /// Adds a clause behind the others, with its literals in ascending order, and answers its number.
+    /// An arena that would have more than 4,294,967,295 literals is answered as want of memory.
+    pub fn add(&mut self, clause: &Clause, tag: u32, origin: Ref) -> Result<usize, AllocError>
+        ensures number { IfOk result (λ id. id ≡ length self.old) }
+        ensures ok { OnOk result (self.new ≡ self.old ++ record { lits = clause.now; tag = tag; origin = origin } ∷ []) }
+        ensures err { OnErr result (self.new ≡ self.old) }
+    {
+        let lits = clause.lits();
+        begin(&mut self.bounds)?;
+        let id = self.bounds.len() - 1;
+        let start = self.bounds[id] as usize;
+        let end = start + lits.len();
+        if end > u32::MAX as usize {
+            return Err(AllocError);
+        }
+        // What a call that wanted memory left here goes first.
+        self.lits.truncate(start);
+        self.names.truncate(id);
+        self.lits.extend_from_slice(lits)?;
+        self.names.push(tag, origin)?;
+        self.bounds.push(end as u32)?;
+        Ok(id)
+    }
+
+    /// How many clauses it has.
+    pub fn len(&self) -> usize
+        ensures value { result ≡ length self.now }
+        ensures distinct { All (λ clause. HasNoRepeat clause.lits) self.now }
+    {
+        self.bounds.len().saturating_sub(1)
+    }
+
+    /// The literals of a clause in their places.
+    pub fn lits(&self, id: usize) -> &[Lit]
+        requires { id < length self.now }
+        ensures value { result.now ≡ (clause_at self.now id).lits }
+        ensures distinct { HasNoRepeat result.now }
+    {
+        let start = self.bounds[id] as usize;
+        let end = self.bounds[id + 1] as usize;
+        &self.lits[start..end]
+    }
+
+    /// The tag of a clause.
+    pub fn tag(&self, id: usize) -> u32
+        requires { id < length self.now }
+        ensures { result ≡ (clause_at self.now id).tag }
+    {
+        self.names.tag(id)
+    }
+
+    /// The name by which derivations cite a clause.
+    pub fn origin(&self, id: usize) -> Ref
+        requires { id < length self.now }
+        ensures { result ≡ (clause_at self.now id).origin }
+    {
+        self.names.origin(id)
+    }
+
+    /// Exchanges two places of a clause, and changes nothing else.
+    pub fn swap(&mut self, id: usize, i: usize, j: usize)
+        requires known { id < length self.old }
+        requires i_in { i < length (clause_at self.old id).lits }
+        requires j_in { j < length (clause_at self.old id).lits }
+        ensures { self.new ≡ with_places_swapped self.old id i j }
+    {
+        let start = self.bounds[id] as usize;
+        self.lits.swap(start + i, start + j);
+    }
+}
+
+// The first bound, where there is none.
+fn begin(bounds: &mut Vec<u32>) -> Result<(), AllocError>
+    ensures ok { OnOk result (bounds.new.items ≡ begun bounds.old.items) }
+    ensures err { OnErr result (bounds.new.items ≡ bounds.old.items) }
+{
+    if bounds.is_empty() {
+        bounds.push(0)?;
+    }
+    Ok(())
+}
+
+#[cfg(test)]
+mod tests {
+    use super::*;
+    use std::test::Fail;
+
+    fn clause(alloc: Global, numbers: &[i32]) -> Result<Clause, AllocError> {
+        let mut lits = Vec::new(alloc);
+        for number in numbers {
+            if let Some(lit) = Lit::of(*number) {
+                lits.push(lit)?;
+            }
+        }
+        Clause::from_lits(alloc, &lits)
+    }
+
+    #[test]
+    fn clauses_keep_their_literals_tags_and_origins(rt: HostRuntime) -> Result<(), Fail> {
+        let alloc = rt.alloc();
+        let mut arena = Arena::new(alloc);
+        let first = clause(alloc, &[1, 2])?;
+        assert_eq!(rt; arena.add(&first, 1, Ref::Input(1))?, 0);
+        let shared = Ref::Shared {
+            packet: 4_194_304,
+            step: 65_536,
+        };
+        for (id, origin) in [(1, Ref::Own(4_294_967_296)), (2, shared), (3, Ref::Own(7))] {
+            let second = clause(alloc, &[-3, 4, 1])?;
+            assert_eq!(rt; arena.add(&second, 5, origin)?, id);
+        }
+        assert_eq!(rt; arena.len(), 4);
+        assert_eq!(rt; arena.lits(0).len(), 2);
+        arena.swap(0, 0, 1);
+        for (id, numbers) in [(0, [2, 1].as_slice()), (1, [1, -3, 4].as_slice())] {
+            assert!(rt; id < arena.len());
+            assert_eq!(rt; arena.lits(id).len(), numbers.len());
+            for (lit, number) in arena.lits(id).iter().zip(numbers) {
+                assert_eq!(rt; lit.number(), *number);
+            }
+        }
+        let rows = [
+            (0, 1, Ref::Input(1)),
+            (1, 5, Ref::Own(4_294_967_296)),
+            (2, 5, shared),
+            (3, 5, Ref::Own(7)),
+        ];
+        for (id, tag, origin) in rows {
+            assert!(rt; id < arena.len());
+            assert_eq!(rt; arena.tag(id), tag);
+            assert_eq!(rt; arena.origin(id), origin);
+        }
+        Ok(())
+    }
+}

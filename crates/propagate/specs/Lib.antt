@@ -1,0 +1,4 @@
+pub mod Store
+pub mod Scan
+pub mod Layout
+pub mod Progress

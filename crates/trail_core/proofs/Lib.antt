@@ -1,0 +1,6 @@
+pub mod Views
+pub mod Push
+pub mod Pop
+pub mod Grow
+pub mod Levels
+pub mod Laid

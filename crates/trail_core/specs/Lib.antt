@@ -1,0 +1,5 @@
+pub mod Trail
+pub mod UnderTrail
+pub mod Truth
+pub mod Standing
+pub mod Layout
