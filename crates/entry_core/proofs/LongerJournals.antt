@@ -1,7 +1,6 @@
 -- What a longer journal keeps.
-use Rattle.std.proofs.Common.{◌≡◌, ◌∙◌, ℕ, zero, suc, ◌+◌, ◌-◌, ◌<◌, ◌≤◌, Bool, true, false, cond, Option, Some, None, List, [], ◌∷◌, ◌++◌, map, length, refl, ap, subst, sym, inl, inr, arith, append_assoc, length-append}
-use Rattle.std.specs.Prelude.{◌⊎◌, ◌==◌, filter, filter_map, slice_get, nat_le}
-use Rattle.std.proofs.lemmas.Bool.{cases_Bool}
+use Rattle.std.proofs.Common.{◌≡◌, ◌∙◌, ℕ, zero, suc, ◌+◌, ◌-◌, ◌<◌, ◌≤◌, Bool, true, false, cond, Option, Some, None, List, [], ◌∷◌, ◌++◌, map, length, refl, ap, sym, arith, append_assoc, length-append}
+use Rattle.std.specs.Prelude.{◌==◌, filter, slice_get, nat_le}
 use Rattle.std.proofs.lemmas.Bool.Decides.{nat_tests}
 use Rattle.std.proofs.lemmas.List.Elements.{filter-append, filter_map-append}
 use Rattle.std.proofs.lemmas.List.{append-nil}
@@ -10,8 +9,8 @@ use Rattle.entry_core.specs.declared.segments.Segment.{Segment}
 use Rattle.entry_core.specs.declared.answers.Verdict.{Verdict}
 use Rattle.entry_core.specs.declared.entries.Entry.{Entry}
 use Rattle.entry_core.specs.declared.rules.Rules.{Rules}
-use Rattle.entry_core.specs.Journal.{segment_of, segments, jobs, tagged_from, inputs, inputs_of, clauses_of, cube_in, cube_of, packet_of, packets}
-use Rattle.entry_core.specs.Settled.{or_else, standing, settled_after, settled}
+use Rattle.entry_core.specs.Journal.{segment_of, segments, jobs, tagged_from, inputs, inputs_of, cube_in, cube_of, packet_of, packets}
+use Rattle.entry_core.specs.Settled.{or_else, standing, settled_after}
 use Rattle.entry_core.specs.Law.{LongerJournalKeeps}
 
 pub segments-append : (journal more : List Entry) → segments (journal ++ more) ≡ segments journal ++ segments more

@@ -1,9 +1,8 @@
 -- Every step of a shared packet follows from the input clauses up to its tag.
-use Rattle.std.proofs.Common.{◌≡◌, ◌∙◌, ℕ, zero, suc, ◌+◌, ◌-◌, ◌<◌, ◌≤◌, Bool, true, false, cond, Option, Some, None, List, [], ◌∷◌, ◌++◌, map, length, refl, ap, subst, sym, inl, inr, arith, append_assoc}
-use Rattle.std.specs.Prelude.{◌⊎◌, ◌==◌, IsTrue, Contains, filter, filter_map, slice_get, nat_le, option_and_then}
+use Rattle.std.proofs.Common.{◌≡◌, ◌∙◌, ℕ, ◌+◌, Bool, true, false, cond, Option, Some, None, List, [], ◌∷◌, ◌++◌, map, refl, subst, sym, inl, inr, arith, append_assoc}
+use Rattle.std.specs.Prelude.{◌⊎◌, Contains, filter, nat_le, option_and_then}
 use Rattle.std.specs.List.{cons_option}
 use Rattle.std.specs.Arc.{arc_value}
-use Rattle.std.proofs.lemmas.Bool.{cases_Bool}
 use Rattle.std.proofs.lemmas.Bool.Decides.{nat_tests}
 use Rattle.std.proofs.lemmas.List.{append-nil}
 use Rattle.std.proofs.lemmas.List.Elements.{Contains-push_cases}

@@ -1,5 +1,5 @@
 -- What a journal says of attempts: which were begun, which are open, which were spent.
-use Rattle.std.specs.Prelude.{ℕ, Bool, true, false, not, ◌&&◌, ◌==◌, Option, None, Some, List, length, filter, filter_map, count_by, is_some}
+use Rattle.std.specs.Prelude.{ℕ, Bool, false, not, ◌&&◌, ◌==◌, Option, None, Some, List, filter_map, count_by}
 use Rattle.std.specs.List.{list_any}
 use Rattle.trace_core.specs.Known.{item_at}
 use Rattle.entry_core.specs.declared.entries.Entry.{Entry}

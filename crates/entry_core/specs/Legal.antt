@@ -1,5 +1,5 @@
 -- Legal journals: each entry is allowed after the entries before it.
-use Rattle.std.specs.Prelude.{◌≡◌, ℕ, ◌+◌, ◌<◌, ◌≤◌, Bool, true, false, Option, None, Some, IsSome, IsTrue, List, [], ◌∷◌, ◌++◌, length, All}
+use Rattle.std.specs.Prelude.{◌≡◌, ℕ, ◌+◌, ◌<◌, ◌≤◌, false, None, Some, IsSome, IsTrue, List, [], ◌∷◌, ◌++◌, length, All}
 use Rattle.std.specs.Arc.{arc_value}
 use Rattle.sat_base.specs.Lit.{IsTautology, greatest_of, greatest_of_all}
 use Rattle.trace_core.specs.Trace.{AreOkSteps}
