@@ -1,3 +1,14 @@
 pub mod EachThen
 pub mod Numbers
+pub mod SortedSets
 pub mod PlainText
+pub mod Tokens
+pub mod Lines
+pub mod TokenKinds
+pub mod LinePlaces
+pub mod Grammar
+pub mod StatementStates
+pub mod HeaderStates
+pub mod Truth
+pub mod Runs
+pub mod ReadBack

@@ -1,2 +1,7 @@
 pub mod Plain
 pub mod Jobs
+pub mod Layout
+pub mod Number
+pub mod Judgement
+pub mod Machine
+pub mod Printed

@@ -4,12 +4,22 @@
 //! `specs/`. This crate knows no solver, no source of bytes and no runtime.
 #![tactic(auto)]
 
+mod faults;
 mod literals;
+mod parser;
+mod places;
 mod plain;
+mod printing;
+mod reader;
+mod sets;
 mod statements;
+mod words;
 
+pub use faults::{Fault, Reason};
 pub use plain::read_plain;
-pub use statements::Statement;
+pub use printing::print;
+pub use reader::{Fed, Reader};
+pub use statements::{Numbered, Statement, Statements};
 
 #[cfg(test)]
 mod tests;

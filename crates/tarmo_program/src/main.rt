@@ -23,6 +23,9 @@ fn main(rt: HostRuntime) -> ExitCode {
         // A word that is no UTF-8 is a word all the same.
         Err(_) => WORDS_REFUSED,
     };
+    if status == WORDS_REFUSED {
+        let _ = eprintln!(rt; "tarmo: words refused");
+    }
     ExitCode::from(status)
 }
 

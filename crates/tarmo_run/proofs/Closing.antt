@@ -1,5 +1,5 @@
 -- From the blocks that stand written to the whole output.
-use Rattle.std.proofs.Common.{◌≡◌, ◌∙◌, ℕ, ◌+◌, ◌≤◌, List, [], ◌∷◌, ◌++◌, length, take, Option, Bool, true, false, refl, ap, sym, subst, arith}
+use Rattle.std.proofs.Common.{◌≡◌, ◌∙◌, ℕ, ◌+◌, List, [], ◌++◌, length, take, Option, Bool, true, false, refl, ap, sym, subst}
 use Rattle.std.specs.Prelude.{◌⊎◌}
 use Rattle.std.proofs.Common.{inl, inr}
 use Rattle.std.proofs.lemmas.List.{take-append-le}
@@ -9,7 +9,7 @@ use Rattle.run_io.proofs.Laws.{appended_nothing, appended_twice}
 use Rattle.icnf_text.specs.Jobs.{Job}
 use Rattle.tarmo_run.specs.declared.endings.Ending.{Ending}
 use Rattle.tarmo_run.specs.declared.endings.Ending.TheVariants.{Complete, Refused, Unread, Exhausted}
-use Rattle.tarmo_run.specs.Output.{AreBlocks, AreShown, Reading, IsOutput, jobs_in, last_line_of}
+use Rattle.tarmo_run.specs.Output.{AreBlocks, AreShown, Reading, jobs_in, last_line_of}
 use Rattle.tarmo_run.specs.Written.{Broke, Finished, FinishedInPart, Showed, TookFrontOfLine, WroteText}
 
 -- what stands before any last line may stand before `memory`
@@ -51,8 +51,8 @@ finished_in_line ending left_before left_after ended failed before middle after 
   };
   count = length showed.blocks + front.size;
   taken = front.taken ∙ ap (λ taken. appended taken (take front.size (last_line_of front.told))) showed.taken
-    ∙ appended_twice before showed.blocks (take front.size (last_line_of front.told))
-    ∙ ap (appended before) (sym (take-append-add showed.blocks (last_line_of front.told) front.size));
+      ∙ appended_twice before showed.blocks (take front.size (last_line_of front.told))
+      ∙ ap (appended before) (sym (take-append-add showed.blocks (last_line_of front.told) front.size));
 }
 
 pub finished_in_blocks : (left_before left_after : Option (List ℕ)) (ended failed : Bool) (before after : Option (List ℕ)) → Broke left_before left_after before after → FinishedInPart left_before left_after ended failed before after

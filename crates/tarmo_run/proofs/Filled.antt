@@ -1,5 +1,5 @@
 -- A buffer that is filled from its front.
-use Rattle.std.proofs.Common.{◌≡◌, ◌∙◌, ℕ, ◌+◌, ◌-◌, ◌≤◌, List, ◌++◌, length, take, drop, Option, Bool, false, nat_eq, nat_lt, ap, sym, subst, arith}
+use Rattle.std.proofs.Common.{◌≡◌, ◌∙◌, ℕ, ◌+◌, ◌-◌, ◌≤◌, List, ◌++◌, length, take, Option, Bool, false, nat_eq, nat_lt, ap, sym, subst, arith}
 use Rattle.std.specs.Prelude.{◌||◌}
 use Rattle.std.proofs.lemmas.Bool.{and_left, ne_eqb, or_from}
 use Rattle.std.proofs.lemmas.List.{take-append-le, length-append, length-take-le}
@@ -13,8 +13,8 @@ filled : (buffer new : List ℕ) (at count : ℕ) → at ≤ length buffer → c
 filled buffer new at count within fits =
     let size : length (take at buffer) ≡ at = length-take-le at buffer within in
     subst (λ n. take (n + count) (put_mid at (length buffer - at) buffer new) ≡ take at buffer ++ take count new) size
-      (take-append-add (take at buffer) (new ++ post_of at (length buffer - at) buffer) count
-        ∙ ap (λ xs. take at buffer ++ xs) (take-append-le count new (post_of at (length buffer - at) buffer) fits))
+    (take-append-add (take at buffer) (new ++ post_of at (length buffer - at) buffer) count
+    ∙ ap (λ xs. take at buffer ++ xs) (take-append-le count new (post_of at (length buffer - at) buffer) fits))
 
 pub read_more : (before middle now : Option (List ℕ)) (buffer new : List ℕ) (at count : ℕ) → at ≤ length buffer → count ≤ length new → before ≡ followed_by (take at buffer) middle → middle ≡ followed_by (take count new) now → before ≡ followed_by (take (at + count) (put_mid at (length buffer - at) buffer new)) now
 read_more before middle now buffer new at count within fits first second =

@@ -1,5 +1,5 @@
 -- One more step of a running maximum.
-use Rattle.std.proofs.Common.{◌≡◌, ◌∙◌, ℕ, suc, ◌+◌, ◌<◌, ◌≤◌, List, ◌∷◌, length, ap, subst, sym, arith, add-one, get_or, drop, nat_cmp}
+use Rattle.std.proofs.Common.{◌≡◌, ◌∙◌, ℕ, ◌+◌, ◌<◌, List, ◌∷◌, length, ap, subst, sym, arith, add-one, get_or, drop, nat_cmp}
 use Rattle.std.specs.Prelude.{max}
 use Rattle.std.specs.Ordering.{ord_max}
 use Rattle.std.proofs.Math.Seq.{drop-cons}

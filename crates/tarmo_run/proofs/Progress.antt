@@ -1,6 +1,6 @@
 -- How far a run has come through its jobs.
-use Rattle.std.proofs.Common.{◌≡◌, ◌∙◌, ℕ, zero, suc, ◌+◌, ◌^◌, ◌<◌, ◌≤◌, List, [], ◌∷◌, ◌++◌, length, take, Option, refl, ap, sym, subst, arith, append_assoc, append-nil}
-use Rattle.std.proofs.lemmas.List.{length-append, take-append-le}
+use Rattle.std.proofs.Common.{◌≡◌, ◌∙◌, ℕ, ◌+◌, ◌^◌, ◌<◌, ◌≤◌, List, [], ◌∷◌, ◌++◌, length, take, Option, refl, ap, sym, subst, arith, append_assoc, append-nil}
+use Rattle.std.proofs.lemmas.List.{length-append}
 use Rattle.std.proofs.Math.Seq.{take-append_seam, take-append-add}
 use Rattle.run_io.specs.Bytes.{appended}
 use Rattle.run_io.proofs.Laws.{appended_nothing, appended_twice}
@@ -21,10 +21,13 @@ pub record Progress (jobs left : List Job) (count : ℕ) (before now : Option (L
 AreBlocks-push : (number : ℕ) (jobs : List Job) (text : List ℕ) (job : Job) (block : List ℕ) → AreBlocks number jobs text → IsBlock (number + length jobs) job.clauses job.cube block → AreBlocks number (jobs ++ job ∷ []) (text ++ block)
 AreBlocks-push number [] text job block are is =
     (block, [], subst (λ n. IsBlock n job.clauses job.cube block) (omega arith) is, refl, ap (λ xs. xs ++ block) are ∙ sym (append-nil block))
-AreBlocks-push number (first ∷ jobs) text job block are is =
-    (are.0, are.1 ++ block, are.2,
-     AreBlocks-push (number + 1) jobs are.1 job block are.3 (subst (λ n. IsBlock n job.clauses job.cube block) (omega arith) is),
-     ap (λ xs. xs ++ block) are.4 ∙ append_assoc are.0 are.1 block)
+AreBlocks-push number (first ∷ jobs) text job block are is = (
+  are.0,
+  are.1 ++ block,
+  are.2,
+  AreBlocks-push (number + 1) jobs are.1 job block are.3 (subst (λ n. IsBlock n job.clauses job.cube block) (omega arith) is),
+  ap (λ xs. xs ++ block) are.4 ∙ append_assoc are.0 are.1 block,
+)
 
 pub none_done : (jobs : List Job) (before : Option (List ℕ)) → Progress jobs jobs 0 before before
 none_done jobs before = record { done = []; text = []; blocks = refl; number = refl; taken = sym (appended_nothing before); whole = refl }
@@ -60,12 +63,12 @@ broken_block jobs left job count size before now next block p is within more =
       count = length (p.done ++ job ∷ []);
       blocks = p.text ++ block;
       right = subst (λ (xs : List Job). AreBlocks 1 xs (p.text ++ block))
-        (sym (ap (take (length (p.done ++ job ∷ []))) (p.whole ∙ sym (append_assoc p.done (job ∷ []) left)) ∙ take-append_seam (p.done ++ job ∷ []) left))
-        (AreBlocks-push 1 p.done p.text job block p.blocks (subst (λ n. IsBlock n job.clauses job.cube block) (omega (arith, p.number)) is));
+          (sym (ap (take (length (p.done ++ job ∷ []))) (p.whole ∙ sym (append_assoc p.done (job ∷ []) left)) ∙ take-append_seam (p.done ++ job ∷ []) left))
+          (AreBlocks-push 1 p.done p.text job block p.blocks (subst (λ n. IsBlock n job.clauses job.cube block) (omega (arith, p.number)) is));
       size = length p.text + size;
       within = omega (arith, length-append p.text block);
       taken = more ∙ ap (λ taken. appended taken (take size block)) p.taken ∙ appended_twice before p.text (take size block)
-        ∙ ap (appended before) (sym (take-append-add p.text block size));
+          ∙ ap (appended before) (sym (take-append-add p.text block size));
     }
 
 pub shorter : (size : ℕ) (shown block : List ℕ) → size < length shown → shown ≡ block → size ≤ length block

@@ -1,11 +1,10 @@
 -- Assignments of exactly a query's variables are enough.
-use Rattle.std.proofs.Common.{◌≡◌, ◌∙◌, ℕ, zero, suc, ◌+◌, ◌-◌, ◌*◌, ◌/◌, ◌<◌, ◌≤◌, List, [], ◌∷◌, map, length, Bool, true, false, not, cond, refl, ap, sym, arith, rules, get_or}
-use Rattle.std.specs.Prelude.{IsTrue, All, Contains, max, ◌&&◌, ◌||◌, Option, None, Some, MatchOption}
-use Rattle.std.specs.List.{list_any, list_all}
+use Rattle.std.proofs.Common.{◌≡◌, ◌∙◌, ℕ, zero, suc, ◌-◌, ◌<◌, ◌≤◌, List, [], ◌∷◌, length, Bool, true, false, not, cond, refl, ap, arith, get_or}
+use Rattle.std.specs.Prelude.{All, ◌&&◌, ◌||◌, Option, None, Some, MatchOption}
 use Rattle.std.proofs.lemmas.Bool.{and_from, and_parts, false_from_ne_true, both_ways}
 use Rattle.std.proofs.lemmas.List.Elements.{All-head, All-tail, All-contains_itself}
-use Rattle.sat_base.specs.Lit.{IsLit, variable, is_negative, opposite, greatest_of, greatest_of_all, variables}
-use Rattle.sat_base.specs.Truth.{value_of, lit_true, clause_true, cube_true, all_true, Entails, IsModelOf, IsRefutedPart}
+use Rattle.sat_base.specs.Lit.{IsLit, variable, is_negative, greatest_of, greatest_of_all, variables}
+use Rattle.sat_base.specs.Truth.{lit_true, clause_true, cube_true, all_true, IsModelOf, IsRefutedPart}
 use Rattle.sat_base.proofs.Entailment.{cube_contradicts}
 use Rattle.tarmo_run.specs.Count.{satisfies}
 

@@ -1,5 +1,5 @@
 -- What a run writes for the bytes that it read.
-use Rattle.std.specs.Prelude.{◌≡◌, ℕ, ◌+◌, ◌≤◌, ◌⊎◌, Bool, true, false, Option, None, IsSome, List, [], ◌∷◌, ◌++◌, length, take, codes, nat_lt}
+use Rattle.std.specs.Prelude.{◌≡◌, ℕ, ◌+◌, ◌⊎◌, Bool, true, false, Option, None, IsSome, List, [], ◌∷◌, ◌++◌, length, take, codes}
 use Rattle.std.specs.Option.{option_map_or}
 use Rattle.std.specs.Fmt.{decimal}
 use Rattle.run_io.specs.Bytes.{followed_by, appended}

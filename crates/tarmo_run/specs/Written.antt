@@ -1,11 +1,11 @@
 -- What stands written before the last line.
-use Rattle.std.specs.Prelude.{◌≡◌, ℕ, ◌≤◌, ◌⊎◌, Option, None, IsSome, Bool, List, [], length, take}
+use Rattle.std.specs.Prelude.{◌≡◌, ℕ, ◌≤◌, ◌⊎◌, Option, None, IsSome, Bool, List, length, take}
 use Rattle.run_io.specs.Bytes.{followed_by, appended}
 use Rattle.icnf_text.specs.Plain.{plain_statements}
 use Rattle.icnf_text.specs.Jobs.{Job}
 use Rattle.tarmo_run.specs.declared.endings.Ending.{Ending}
 use Rattle.tarmo_run.specs.declared.endings.Ending.TheVariants.{Complete, Refused, Unread, Exhausted}
-use Rattle.tarmo_run.specs.Output.{AreBlocks, AreShown, Reading, IsOutput, jobs_in, last_line_of}
+use Rattle.tarmo_run.specs.Output.{AreBlocks, AreShown, IsOutput, jobs_in, last_line_of}
 
 -- the blocks of these jobs were taken
 pub record TookBlocks (jobs : List Job) (before after : Option (List ℕ)) : Type 0 where

@@ -10,5 +10,7 @@ mod blocks;
 mod endings;
 mod input;
 mod search;
+#[cfg(test)]
+mod tests;
 
 pub use alone::run_alone;

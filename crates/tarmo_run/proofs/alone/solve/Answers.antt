@@ -3,7 +3,6 @@ use Rattle.std.proofs.lemmas.Result.{IfOk-weaker, on_err_weaker}
 use Rattle.run_io.specs.Bytes.{appended}
 use Rattle.tarmo_run.specs.declared.endings.Ending.TheVariants as endings
 use Rattle.tarmo_run.specs.Output.{last_line_of}
-use Rattle.tarmo_run.specs.Written.{Finished}
 use Rattle.tarmo_run.proofs.Closing.{finished, finished_in_line, finished_in_blocks}
 use Rattle.tarmo_run.proofs.Results.{OnErr-always}
 use Rattle.tarmo_run.proofs.alone.solve.Goals as goal
@@ -14,10 +13,10 @@ returns-in_err-ending-clause-front g c = OnErr-always c.from_residual.result (fi
 pub returns-clause-finished : goal.returns-clause-finished
 returns-clause-finished g c =
     IfOk-weaker c.close.result
-      (λ told. ((told ≡ c.in_ok-ending.ending) ⊎ (told ≡ endings.Exhausted)) × (g.O.Sink.taken c.close.new.out ≡ appended (g.O.Sink.taken c.show_blocks.new.out) (last_line_of told)))
-      _
-      (λ told h. finished c.in_ok-ending.ending told _ _ _ _ _ _ _ c.in_ok-ending.ensures.showed h.0 h.1)
-      c.close.ensures.told
+    (λ told. ((told ≡ c.in_ok-ending.ending) ⊎ (told ≡ endings.Exhausted)) × (g.O.Sink.taken c.close.new.out ≡ appended (g.O.Sink.taken c.show_blocks.new.out) (last_line_of told)))
+    _
+    (λ told h. finished c.in_ok-ending.ending told _ _ _ _ _ _ _ c.in_ok-ending.ensures.showed h.0 h.1)
+    c.close.ensures.told
 
 pub returns-clause-front : goal.returns-clause-front
 returns-clause-front g c =

@@ -23,10 +23,10 @@ returns-in_err-write_all-in-Cube-clause-front g c =
     let job : Job = record { clauses = c.loop-statement.clauses.items; cube = c.in-Cube.cube } in
     let is = subst (λ (clauses : List (List ℕ)). IsBlock (c.loop-statement.jobs + 1) clauses c.in-Cube.cube c.in-Ok.block.items) c.deref.ensures.value c.in-Ok.ensures in
     OnErr-always c.from_residual.result
-      (broken_block (jobs_of c.args.statements.items) (jobs_after c.loop-statement.clauses.items (into_iter_items c.next.new.self)) job c.loop-statement.jobs front.0
-        (g.O.Sink.taken c.args.out.now) (g.O.Sink.taken c.loop-statement.out) (g.O.Sink.taken c.write_all.new.out) c.in-Ok.block.items p is
-        (shorter front.0 c.deref-in-Cube.result.now c.in-Ok.block.items front.1 c.deref-in-Cube.ensures.value)
-        (front.2 ∙ ap (λ block. appended (g.O.Sink.taken c.loop-statement.out) (take front.0 block)) c.deref-in-Cube.ensures.value))
+    (broken_block (jobs_of c.args.statements.items) (jobs_after c.loop-statement.clauses.items (into_iter_items c.next.new.self)) job c.loop-statement.jobs front.0
+    (g.O.Sink.taken c.args.out.now) (g.O.Sink.taken c.loop-statement.out) (g.O.Sink.taken c.write_all.new.out) c.in-Ok.block.items p is
+    (shorter front.0 c.deref-in-Cube.result.now c.in-Ok.block.items front.1 c.deref-in-Cube.ensures.value)
+    (front.2 ∙ ap (λ block. appended (g.O.Sink.taken c.loop-statement.out) (take front.0 block)) c.deref-in-Cube.ensures.value))
 
 pub loop-statement-preserved : goal.loop-statement-preserved
 loop-statement-preserved g c =
@@ -38,8 +38,8 @@ loop-statement-preserved g c =
       can = tt;
       ends = tt;
       progress = one_more_done (jobs_of c.args.statements.items) (jobs_after c.loop-statement.clauses.items (into_iter_items c.next.new.self)) job c.loop-statement.jobs
-        (g.O.Sink.taken c.args.out.now) (g.O.Sink.taken c.loop-statement.out) (g.O.Sink.taken c.write_all.new.out) c.in-Ok.block.items p is
-        (c.in_ok-write_all-in-Cube.ensures.whole ∙ ap (appended (g.O.Sink.taken c.loop-statement.out)) c.deref-in-Cube.ensures.value);
+          (g.O.Sink.taken c.args.out.now) (g.O.Sink.taken c.loop-statement.out) (g.O.Sink.taken c.write_all.new.out) c.in-Ok.block.items p is
+          (c.in_ok-write_all-in-Cube.ensures.whole ∙ ap (appended (g.O.Sink.taken c.loop-statement.out)) c.deref-in-Cube.ensures.value);
       faults = search rules;
       count = fewer c.loop-statement.jobs (into_iter_items c.loop-statement.statement-iterator) (statement.Cube c.in-Cube.cube) (into_iter_items c.next.new.self) next c.loop-statement.invariant.count;
     }

@@ -1,4 +1,4 @@
-use Rattle.std.proofs.Common.{◌∙◌, ◌<◌, subst, sym, arith}
+use Rattle.std.proofs.Common.{◌∙◌, ◌<◌, subst, sym}
 use Rattle.tarmo_run.proofs.Place.{place_of-set_true, carried, carried_out}
 use Rattle.tarmo_run.proofs.search.advance.Goals as goal
 

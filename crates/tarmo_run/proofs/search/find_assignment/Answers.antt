@@ -1,5 +1,5 @@
-use Rattle.std.proofs.Common.{◌≡◌, ◌∙◌, ◌+◌, ◌^◌, List, Bool, false, ap, subst, sym, arith, rules, length}
-use Rattle.std.proofs.Common.{ℕ, replicate}
+use Rattle.std.proofs.Common.{◌≡◌, ◌∙◌, false, ap, sym, rules, length}
+use Rattle.std.proofs.Common.{replicate}
 use Rattle.std.proofs.lemmas.List.{length-replicate}
 use Rattle.tarmo_run.specs.Count.{place_of, satisfies}
 use Rattle.tarmo_run.proofs.Place.{fail_more, fail_all, first_least, nearer, place_of-replicate}

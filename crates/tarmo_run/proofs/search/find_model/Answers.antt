@@ -1,4 +1,4 @@
-use Rattle.std.proofs.Common.{◌≡◌, ◌∙◌, ap, subst, List, ℕ, Bool, false, true, length, arith}
+use Rattle.std.proofs.Common.{◌≡◌, ◌∙◌, ap, subst, List, Bool, false, true, length}
 use Rattle.std.specs.Prelude.{MatchOption, All, max}
 use Rattle.std.proofs.lemmas.Result.{IfOk-weaker}
 use Rattle.sat_base.specs.Lit.{IsLit, greatest_of, variables}

@@ -1,0 +1,17 @@
+# Builds and runs with Rattle's command rt; see README.md.
+
+FILE ?= examples/counter.icnf
+
+.PHONY: run test bench-lock
+
+# Proves what is not proved yet, builds the program, and solves FILE.
+run:
+	cd crates/tarmo_program && rt run < $(abspath $(FILE))
+
+# What the merge gate runs: each proof from its sources, the edits that must fail, tests and programs.
+test:
+	.ci/run
+
+# A hundred thousand holds of the lock beside std's Mutex, by 1, 2 and 4 threads.
+bench-lock:
+	cd crates/turn_lock_bench && rt run -- 100000

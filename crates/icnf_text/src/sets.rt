@@ -1,0 +1,37 @@
+//! Clauses and cubes of literals in any order.
+
+ghost use Rattle.std.specs.Prelude.{◌≡◌, IfOk};
+ghost use Rattle.icnf_text.specs.Judgement.{set_of};
+
+use crate::literals::is_strictly_ascending;
+use sat_base::{Clause, Cube, Lit};
+use std::alloc::{AllocError, Global};
+
+// Most texts have their literals in ascending order, so that nothing is to be sorted.
+pub(crate) fn clause_of(alloc: Global, lits: &[Lit]) -> Result<Clause, AllocError>
+    ensures { IfOk result (λ clause. clause ≡ set_of lits.now) }
+{
+    if is_strictly_ascending(lits) {
+        let set = Vec::from_slice(alloc, lits)?;
+        let clause = Clause::of_ascending(set);
+        let _ = clause.lits();
+        return Ok(clause);
+    }
+    let clause = Clause::from_lits(alloc, lits)?;
+    let _ = clause.lits();
+    Ok(clause)
+}
+
+pub(crate) fn cube_of(alloc: Global, lits: &[Lit]) -> Result<Cube, AllocError>
+    ensures { IfOk result (λ cube. cube ≡ set_of lits.now) }
+{
+    if is_strictly_ascending(lits) {
+        let set = Vec::from_slice(alloc, lits)?;
+        let cube = Cube::of_ascending(set);
+        let _ = cube.lits();
+        return Ok(cube);
+    }
+    let cube = Cube::from_lits(alloc, lits)?;
+    let _ = cube.lits();
+    Ok(cube)
+}
