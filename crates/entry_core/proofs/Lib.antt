@@ -1,0 +1,2 @@
+pub mod LongerJournals
+pub mod SharedSteps

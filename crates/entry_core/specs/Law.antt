@@ -1,0 +1,28 @@
+-- Laws of legal journals.
+use Rattle.std.specs.Prelude.{◌≡◌, ℕ, ◌≤◌, Some, List, ◌++◌, Contains}
+use Rattle.sat_base.specs.Truth.{Entails}
+use Rattle.trace_core.specs.declared.derivation.Step.{Step}
+use Rattle.entry_core.specs.declared.answers.Verdict.{Verdict}
+use Rattle.entry_core.specs.declared.entries.Entry.{Entry}
+use Rattle.entry_core.specs.declared.rules.Rules.{Rules}
+use Rattle.entry_core.specs.Journal.{jobs, inputs_of, clauses_of, cube_of, packets}
+use Rattle.entry_core.specs.Settled.{settled}
+use Rattle.entry_core.specs.Legal.{IsLegal}
+
+-- Every step of a shared packet follows from the input clauses up to its tag.
+abbrev pub SharedStepsFollow : Type 0
+SharedStepsFollow = (rules : Rules) (journal : List Entry) (packet : List Step) (step : Step) → IsLegal rules journal
+    → Contains (packets journal) packet → Contains packet step → Entails (clauses_of journal step.tag) step.clause
+
+-- what the first journal says, the second one says too
+pub record Keeps (rules : Rules) (journal longer : List Entry) : Type 0 where
+  pub more_jobs : jobs journal ≤ jobs longer
+  pub inputs : (job : ℕ) → job ≤ jobs journal → inputs_of longer job ≡ inputs_of journal job
+  pub clauses : (job : ℕ) → job ≤ jobs journal → clauses_of longer job ≡ clauses_of journal job
+  pub cubes : (job : ℕ) → job ≤ jobs journal → cube_of longer job ≡ cube_of journal job
+  pub database : (more : List (List Step)) × (packets longer ≡ packets journal ++ more)
+  pub verdicts : (job : ℕ) (verdict : Verdict) → settled rules journal job ≡ Some verdict → settled rules longer job ≡ Some verdict
+
+-- A longer journal keeps the jobs, the database and the verdicts.
+abbrev pub LongerJournalKeeps : Type 0
+LongerJournalKeeps = (rules : Rules) (journal more : List Entry) → Keeps rules journal (journal ++ more)
