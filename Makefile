@@ -6,7 +6,7 @@ FILE ?= examples/counter.icnf
 
 # Proves what is not proved yet, builds the program, and solves FILE.
 run:
-	cd crates/tarmo_program && rt run < $(abspath $(FILE))
+	@cd crates/tarmo_program && rt run < $(abspath $(FILE))
 
 # What the merge gate runs: each proof from its sources, the edits that must fail, tests and programs.
 test:
