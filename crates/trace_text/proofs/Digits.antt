@@ -135,4 +135,3 @@ pub plain_read : (r : Option ℕ) (token : List ℕ) (z : ℤ) (v : ℕ) → byt
 plain_read r token z v minus found made is low high =
     positive_of r v (subst (λ y. SomeIff r (IsLit (code_of y)) (code_of y)) is made) low high
     ∙ ap (option_map (λ variable. 2 * variable)) found ∙ sym (lit_of-plain token minus)
-

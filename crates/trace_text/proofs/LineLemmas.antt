@@ -1,7 +1,6 @@
 -- What a line says, by what each reader found.
-use Rattle.std.proofs.Common.{◌≡◌, ◌∙◌, ℕ, List, [], ◌∷◌, Bool, true, false, cond, refl, sym, subst, ap, length}
+use Rattle.std.proofs.Common.{◌≡◌, ◌∙◌, ℕ, List, [], ◌∷◌, Bool, true, false, cond, refl, sym, ap}
 use Rattle.std.specs.Prelude.{Option, Some, None, codes, option_and_then}
-use Rattle.std.specs.Option.{option_map}
 use Rattle.std.specs.Str.{bytes_eq}
 use Rattle.sat_base.specs.Lit.{is_ascending}
 use Rattle.trace_text.specs.Line.{Line, Front, number_of, lit_of, until_zero, all_then_zero, fields_of, line_of_tokens, line_of, tokens_of}

@@ -1,6 +1,6 @@
 -- The steps of lines, one line after the other.
-use Rattle.std.proofs.Common.{◌≡◌, ◌∙◌, ℕ, ◌+◌, List, [], ◌∷◌, ◌++◌, length, map, Bool, true, false, cond, refl, sym, subst, ap, inl, inr, append_assoc, arith}
-use Rattle.std.specs.Prelude.{Option, Some, None, Result, Ok, Err, ◌==◌, ◌⊎◌}
+use Rattle.std.proofs.Common.{◌≡◌, ◌∙◌, ℕ, ◌+◌, List, [], ◌∷◌, ◌++◌, length, map, Bool, true, false, cond, refl, sym, subst, ap, append_assoc, arith}
+use Rattle.std.specs.Prelude.{Option, Result, Ok, Err, ◌==◌, ◌⊎◌}
 use Rattle.std.specs.List.{slice_split}
 use Rattle.std.proofs.lemmas.List.{map-append}
 use Rattle.std.proofs.lemmas.Bool.Decides.{nat_tests}
@@ -9,7 +9,7 @@ use Rattle.std.specs.Result.{IsErrAnd, MatchResult}
 use Rattle.trace_text.specs.Line.{Line, line_of}
 use Rattle.trace_text.specs.Text.{steps_of_lines, step_said, and_others, tags_with}
 use Rattle.trace_text.specs.declared.faults.TraceFault.{TraceFault}
-use Rattle.trace_text.specs.declared.faults.TraceFault.TheVariants.{Form, Order, Memory}
+use Rattle.trace_text.specs.declared.faults.TraceFault.TheVariants.{Form, Memory}
 use Rattle.trace_text.proofs.Tokens.{parts}
 
 one_more : (tags : List ℕ) (before : List Step) (line : List ℕ) (p : ℕ → Bool) (more : List ℕ) →

@@ -28,7 +28,7 @@ parts {X} p (x ∷ xs) = at (p x) (slice_split p xs) (parts p xs)
     at true split h = ([], split, refl)
     at false split h = (x ∷ h.0, h.1, ap (onto_first x) h.2)
 
-each_then-more : {X : Type 0} (judge : List ℕ → Option X) (item : List ℕ) (p : ℕ → Bool) (more : List ℕ) →
+pub each_then-more : {X : Type 0} (judge : List ℕ → Option X) (item : List ℕ) (p : ℕ → Bool) (more : List ℕ) →
     all_then_zero judge (item ∷ slice_split p more) ≡ option_and_then (λ x. option_map (λ xs. x ∷ xs) (all_then_zero judge (slice_split p more))) (judge item)
 each_then-more judge item p more = let h = parts p more in rw (h.2) refl
 
@@ -119,7 +119,7 @@ pub with_lead-nothing : {X : Type 0} (rest : Option (Front X)) → with_lead [] 
 with_lead-nothing None = refl
 with_lead-nothing (Some front) = refl
 
-until_zero-more : {X : Type 0} (judge : List ℕ → Option X) (token : List ℕ) (p : ℕ → Bool) (more : List ℕ) →
+pub until_zero-more : {X : Type 0} (judge : List ℕ → Option X) (token : List ℕ) (p : ℕ → Bool) (more : List ℕ) →
     until_zero judge (token ∷ slice_split p more) ≡ cond (bytes_eq token (48 ∷ [])) (Some (record { items = []; rest = slice_split p more })) (option_and_then (λ item. option_map (λ front. record { items = item ∷ front.items; rest = front.rest }) (until_zero judge (slice_split p more))) (judge token))
 until_zero-more judge token p more = let h = parts p more in rw (h.2) refl
 

@@ -1,5 +1,5 @@
 -- Trace lines over so many inputs: how steps are numbered, and what a text of lines says.
-use Rattle.std.specs.Prelude.{◌≡◌, ℕ, ◌+◌, ◌-◌, ◌<◌, ◌≤◌, nat_le, nat_lt, ◌==◌, ◌&&◌, if◌then◌else◌, Bool, Option, Some, None, Result, Ok, Err, List, [], ◌∷◌, ◌++◌, map, length, slice_index, All}
+use Rattle.std.specs.Prelude.{ℕ, ◌+◌, ◌-◌, ◌<◌, ◌≤◌, nat_le, nat_lt, ◌==◌, ◌&&◌, if◌then◌else◌, Bool, Option, Some, None, Result, Ok, Err, List, [], ◌∷◌, ◌++◌, map, length, slice_index, All}
 use Rattle.std.specs.List.{slice_split, list_all}
 use Rattle.sat_base.specs.declared.origins.Ref.{Ref}
 use Rattle.sat_base.specs.declared.origins.Ref.TheVariants.{Input, Shared, Own}
@@ -7,7 +7,7 @@ use Rattle.trace_core.specs.Trace.{greatest}
 use Rattle.trace_core.specs.declared.derivation.Step.{Step}
 use Rattle.trace_text.specs.Line.{Line, line_of, line_text}
 use Rattle.trace_text.specs.declared.faults.TraceFault.{TraceFault}
-use Rattle.trace_text.specs.declared.faults.TraceFault.TheVariants.{Form, Order, Memory}
+use Rattle.trace_text.specs.declared.faults.TraceFault.TheVariants.{Form, Order}
 
 -- Inputs have the numbers from 1 on, and the steps those behind them.
 abbrev pub number_of_hint : ℕ → Ref → ℕ

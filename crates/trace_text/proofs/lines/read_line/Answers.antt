@@ -1,5 +1,4 @@
-use Rattle.std.proofs.Common.{◌≡◌, rules, sym, ap}
-use Rattle.trace_text.specs.Line.{tokens_of}
+use Rattle.std.proofs.Common.{rules}
 use Rattle.trace_text.proofs.LineLemmas.{no_token, other_letter, no_id, bad_id, line_fields}
 use Rattle.trace_text.proofs.lines.read_line.Goals as goal
 

@@ -1,6 +1,6 @@
 use Rattle.std.proofs.Common.{◌==◌, rules}
 use Rattle.trace_text.specs.Line.{lit_of, tokens_of, until_zero}
-use Rattle.trace_text.proofs.Tokens.{until_found, until_judged, until_refused, until_ended}
+use Rattle.trace_text.proofs.Tokens.{until_found}
 use Rattle.trace_text.proofs.lines.read_lits.Goals as goal
 
 pub returns-then-eq : goal.returns-then-eq

@@ -1,4 +1,4 @@
-use Rattle.std.proofs.Common.{◌≡◌, ◌∙◌, arith}
+use Rattle.std.proofs.Common.{◌∙◌, arith}
 use Rattle.trace_text.proofs.Digits.{no_variable, variable_too_large, variable_is}
 use Rattle.trace_text.proofs.numbers.read_variable.Goals as goal
 
