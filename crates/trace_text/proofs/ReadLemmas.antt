@@ -12,7 +12,7 @@ use Rattle.trace_text.specs.declared.faults.TraceFault.{TraceFault}
 use Rattle.trace_text.specs.declared.faults.TraceFault.TheVariants.{Form, Memory}
 use Rattle.trace_text.proofs.Tokens.{parts}
 
-one_more : (tags : List ℕ) (before : List Step) (line : List ℕ) (p : ℕ → Bool) (more : List ℕ) →
+pub one_more : (tags : List ℕ) (before : List Step) (line : List ℕ) (p : ℕ → Bool) (more : List ℕ) →
     steps_of_lines tags before (line ∷ slice_split p more) ≡ and_others (step_said (length tags) (length before + 1) (tags_with tags before) (line_of line)) (λ step. steps_of_lines tags (before ++ step ∷ []) (slice_split p more))
 one_more tags before line p more = let h = parts p more in rw (h.2) refl
 

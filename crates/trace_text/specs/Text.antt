@@ -1,6 +1,7 @@
 -- Trace lines over so many inputs: how steps are numbered, and what a text of lines says.
-use Rattle.std.specs.Prelude.{ℕ, ◌+◌, ◌-◌, ◌<◌, ◌≤◌, nat_le, nat_lt, ◌==◌, ◌&&◌, if◌then◌else◌, Bool, Option, Some, None, Result, Ok, Err, List, [], ◌∷◌, ◌++◌, map, length, slice_index, All}
+use Rattle.std.specs.Prelude.{ℕ, ◌+◌, ◌-◌, ◌<◌, ◌≤◌, nat_le, nat_lt, ◌==◌, ◌&&◌, if◌then◌else◌, Bool, Option, Some, None, Result, Ok, Err, List, [], ◌∷◌, ◌++◌, map, length, slice_index, All, ◌^◌, ◌≡◌}
 use Rattle.std.specs.List.{slice_split, list_all}
+use Rattle.sat_base.specs.Lit.{IsLitSet}
 use Rattle.sat_base.specs.declared.origins.Ref.{Ref}
 use Rattle.sat_base.specs.declared.origins.Ref.TheVariants.{Input, Shared, Own}
 use Rattle.trace_core.specs.Trace.{greatest}
@@ -69,3 +70,15 @@ steps_of_lines tags before (line ∷ next ∷ lines) = and_others (step_said (le
 
 abbrev pub lines_of : List ℕ → List (List ℕ)
 lines_of text = slice_split (λ byte. byte == 10) text
+
+-- each step's tag is the greatest of the tags of its hints, over the tags of the inputs and of the steps before
+abbrev pub HaveExactTags : List ℕ → List Step → List Step → Type 0
+HaveExactTags tags before [] = Unit {0}
+HaveExactTags tags before (step ∷ steps) = (step.tag ≡ tag_of_hints (tags_with tags before) (map (number_of_hint (length tags)) step.hints)) × HaveExactTags tags (before ++ step ∷ []) steps
+
+-- the text is the lines of these steps, over so many inputs
+pub record ArePrinted (inputs : ℕ) (steps : List Step) (text : List ℕ) : Type 0 where
+  pub lines : text ≡ steps_text inputs 0 steps
+  pub earlier : CiteEarlier inputs 0 steps
+  pub sets : All (λ (step : Step). IsLitSet step.clause) steps
+  pub numbers : inputs + length steps < 2 ^ 64

@@ -2,8 +2,10 @@
 
 ghost use Rattle.std.specs.Prelude.{◌≡◌, ◌+◌, ◌<◌, ◌≤◌, ◌^◌, ◌++◌, map, OnOk, IfOk, All, decimal};
 ghost use Rattle.std.specs.List.{flat_map};
+ghost use Rattle.sat_base.specs.Lit.{IsLitSet};
+ghost use Rattle.trace_core.specs.declared.derivation.Step.{Step};
 ghost use Rattle.trace_text.specs.Line.{lit_text, hint_text, line_text, Line};
-ghost use Rattle.trace_text.specs.Text.{CiteEarlier, number_of_hint, steps_text};
+ghost use Rattle.trace_text.specs.Text.{ArePrinted, CiteEarlier, number_of_hint, steps_text};
 
 use itoa::Buffer;
 use sat_base::{Lit, Ref};
@@ -76,10 +78,8 @@ fn print_step(out: &mut Vec<u8>, inputs: u64, id: u64, step: &Step) -> Result<()
     out.extend_from_slice(b"0\n")
 }
 
-/// The steps as trace lines: for the i-th step, counted from 1, the line `t ID LITS 0 HINTS 0` with `inputs`
-/// plus i as ID, the literals of its clause, and the numbers of its hints, an input's its own and the i-th
-/// step's `inputs` plus i.
-pub fn print(alloc: Global, inputs: u64, steps: &[Step]) -> Result<Vec<u8>, AllocError>
+// The steps as lines.
+fn print_lines(alloc: Global, inputs: u64, steps: &[Step]) -> Result<Vec<u8>, AllocError>
     requires inputs { inputs ≤ 16777216 }
     requires earlier { CiteEarlier inputs 0 steps.now }
     ensures { IfOk result (λ text. text.items ≡ steps_text inputs 0 steps.now) }
@@ -89,4 +89,26 @@ pub fn print(alloc: Global, inputs: u64, steps: &[Step]) -> Result<Vec<u8>, Allo
         print_step(&mut out, inputs, inputs + (index as u64 + 1), step)?;
     }
     Ok(out)
+}
+
+// Each clause is a set of literals. Its type keeps that, and a proof sees it at a call on the clause.
+fn look_at(steps: &[Step])
+    ensures { All (λ (step : Step). IsLitSet step.clause) steps.now }
+{
+    for step in steps {
+        let _ = step.clause.lits();
+    }
+}
+
+/// The steps as trace lines: for the i-th step, counted from 1, the line `t ID LITS 0 HINTS 0` with `inputs`
+/// plus i as ID, the literals of its clause, and the numbers of its hints, an input's its own and the i-th
+/// step's `inputs` plus i.
+pub fn print(alloc: Global, inputs: u64, steps: &[Step]) -> Result<Vec<u8>, AllocError>
+    requires inputs { inputs ≤ 16777216 }
+    requires earlier { CiteEarlier inputs 0 steps.now }
+    ensures { IfOk result (λ text. ArePrinted inputs steps.now text.items) }
+{
+    look_at(steps);
+    let text = print_lines(alloc, inputs, steps)?;
+    Ok(text)
 }

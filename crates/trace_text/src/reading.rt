@@ -1,9 +1,10 @@
 //! The steps of a text.
 
-ghost use Rattle.std.specs.Prelude.{◌≡◌, ◌<◌, ◌≤◌, ◌^◌, ◌+◌, ◌-◌, ◌⊎◌, [], ◌∷◌, ◌++◌, length, map, nat_lt, slice_index, IfOk, OnOk, MatchResult, Ok, Err};
+ghost use Rattle.std.specs.Prelude.{List, ◌≡◌, ◌<◌, ◌≤◌, ◌^◌, ◌+◌, ◌-◌, ◌⊎◌, [], ◌∷◌, ◌++◌, length, map, nat_lt, slice_index, IfOk, OnOk, MatchResult, Ok, Err};
 ghost use Rattle.std.specs.List.{list_all};
+ghost use Rattle.trace_core.specs.declared.derivation.Step.{Step};
 ghost use Rattle.trace_text.specs.Line.{Line, line_of};
-ghost use Rattle.trace_text.specs.Text.{hint_of_number, is_in_order, lines_of, step_said, steps_of_lines, tag_of_hints};
+ghost use Rattle.trace_text.specs.Text.{ArePrinted, HaveExactTags, hint_of_number, is_in_order, lines_of, step_said, steps_of_lines, tag_of_hints};
 
 use crate::TraceFault;
 use crate::cuts::cut_at;
@@ -106,16 +107,10 @@ fn add(tags: &mut Vec<u32>, steps: &mut Vec<Step>, step: Step) -> Result<(), All
     Ok(())
 }
 
-/// The steps of a text of trace lines, with exact tags, where `tags` are those of the inputs. Line i, counted
-/// from 1, is `t ID LITS 0 HINTS 0` with one space between two tokens and a line feed at its end: ID is the
-/// number of inputs plus i, LITS are literals in strictly ascending order, and HINTS are numbers of inputs
-/// and of steps of earlier lines, all from 1 to 18446744073709551615 without leading zeros.
-///
-/// The fault is that of the first wrong line: `Form` where it isn't written so, `Order` where it is, but its
-/// ID isn't that number or a hint isn't smaller than its ID.
-pub fn read(alloc: Global, tags: &[u32], bytes: &[u8]) -> Result<Vec<Step>, TraceFault>
+// The steps of a text, or the fault of its first wrong line.
+fn read_lines(alloc: Global, tags: &[u32], bytes: &[u8]) -> Result<Vec<Step>, TraceFault>
     requires { length tags.now ≤ 4294967295 }
-    ensures exact { MatchResult result (λ steps. steps_of_lines tags.now [] (lines_of bytes.now) ≡ Ok steps.items) (λ fault. (fault ≡ TraceFault.Memory) ⊎ (steps_of_lines tags.now [] (lines_of bytes.now) ≡ Err fault)) }
+    ensures { MatchResult result (λ steps. steps_of_lines tags.now [] (lines_of bytes.now) ≡ Ok steps.items) (λ fault. (fault ≡ TraceFault.Memory) ⊎ (steps_of_lines tags.now [] (lines_of bytes.now) ≡ Err fault)) }
 {
     let inputs = tags.len() as u32;
     let mut known = Vec::from_slice(alloc, tags)?;
@@ -130,4 +125,22 @@ pub fn read(alloc: Global, tags: &[u32], bytes: &[u8]) -> Result<Vec<Step>, Trac
         return Err(TraceFault::Form(steps.len() as u64 + 1));
     }
     Ok(steps)
+}
+
+/// The steps of a text of trace lines, with exact tags, where `tags` are those of the inputs. Line i, counted
+/// from 1, is `t ID LITS 0 HINTS 0` with one space between two tokens and a line feed at its end: ID is the
+/// number of inputs plus i, LITS are literals in strictly ascending order, and HINTS are numbers of inputs
+/// and of steps of earlier lines, all from 1 to 18446744073709551615 without leading zeros.
+///
+/// The fault is that of the first wrong line: `Form` where it isn't written so, `Order` where it is, but its
+/// ID isn't that number or a hint isn't smaller than its ID.
+///
+/// What `print` wrote for as many inputs as there are tags is read back as the same steps, where their tags
+/// are exact.
+pub fn read(alloc: Global, tags: &[u32], bytes: &[u8]) -> Result<Vec<Step>, TraceFault>
+    requires { length tags.now ≤ 4294967295 }
+    ensures exact { MatchResult result (λ steps. steps_of_lines tags.now [] (lines_of bytes.now) ≡ Ok steps.items) (λ fault. (fault ≡ TraceFault.Memory) ⊎ (steps_of_lines tags.now [] (lines_of bytes.now) ≡ Err fault)) }
+    ensures read_back { (steps : List Step) → ArePrinted (length tags.now) steps bytes.now → HaveExactTags tags.now [] steps → MatchResult result (λ read. read.items ≡ steps) (λ fault. fault ≡ TraceFault.Memory) }
+{
+    read_lines(alloc, tags, bytes)
 }

@@ -1,6 +1,6 @@
 use Rattle.std.proofs.Common.{◌≡◌, [], length}
 use Rattle.trace_text.specs.Text.{tags_with, steps_of_lines, lines_of}
-use Rattle.trace_text.proofs.reading.read.Given as goal
+use Rattle.trace_text.proofs.reading.read_lines.Given as goal
 
 abbrev pub invariant-loop-line : goal.invariant-loop-line
 invariant-loop-line l = record {

@@ -1,6 +1,6 @@
 use Rattle.std.proofs.Common.{◌≡◌, ◌++◌, drop}
 use Rattle.trace_text.specs.Text.{CiteEarlier, steps_text}
-use Rattle.trace_text.proofs.printing.print.Given as goal
+use Rattle.trace_text.proofs.printing.print_lines.Given as goal
 
 abbrev pub invariant-loop-index : goal.invariant-loop-index
 invariant-loop-index l = record {
