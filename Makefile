@@ -2,7 +2,7 @@
 
 FILE ?= examples/counter.icnf
 
-.PHONY: run test bench-reader bench-checker bench-lock
+.PHONY: run test bench-reader bench-checker bench-trace bench-lock
 
 # Proves what is not proved yet, builds the program, and solves FILE.
 run:
@@ -20,6 +20,10 @@ bench-reader:
 # A million steps of ten hints through the checker.
 bench-checker:
 	cd crates/trace_bench && rt run -- 1000000
+
+# Trimming and printing a derivation of a million steps.
+bench-trace:
+	cd crates/trim_bench && rt run -- 1000000
 
 # A hundred thousand holds of the lock beside std's Mutex, by 1, 2 and 4 threads.
 bench-lock:
