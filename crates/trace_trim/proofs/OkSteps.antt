@@ -1,5 +1,5 @@
 -- Ok steps over all that is known in the end, and one by one.
-use Rattle.std.proofs.Common.{◌≡◌, ◌∙◌, ℕ, zero, suc, ◌<◌, List, [], ◌∷◌, ◌++◌, map, take, refl, subst, sym, ap, inl, inr, append_assoc, append-nil, arith}
+use Rattle.std.proofs.Common.{◌≡◌, ◌∙◌, ℕ, zero, suc, List, [], ◌∷◌, ◌++◌, map, take, refl, subst, sym, ap, inl, inr, append_assoc, append-nil, arith}
 use Rattle.std.specs.Prelude.{Contains, ◌⊎◌, Option, Some, None, IsSome, slice_get, option_map, option_and_then}
 use Rattle.std.specs.List.{AllZip, All}
 use Rattle.std.proofs.lemmas.List.Elements.{All-nil, All-cons, All-head, All-tail}
@@ -11,7 +11,7 @@ use Rattle.trace_core.specs.Propagation.{IsProved}
 use Rattle.trace_core.specs.Trace.{IsOkStep, AreOkSteps, AreOkPackets, known_of, greatest}
 use Rattle.trace_core.specs.declared.derivation.Step.{Step}
 use Rattle.trace_core.proofs.Soundness.{ok_step_stays_ok, item_at-contains}
-use Rattle.trace_trim.specs.Names.{step_named, cited}
+use Rattle.trace_trim.specs.Names.{step_named}
 use Rattle.trace_trim.proofs.Zips.{item_at-append, item_at-map}
 
 known_grows : (inputs : List Known) (packets : List (List Known)) (own more : List Known) (name : Ref) (named : Known) → known inputs packets own name ≡ Some named → known inputs packets (own ++ more) name ≡ Some named

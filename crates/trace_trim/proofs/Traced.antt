@@ -1,18 +1,16 @@
 -- A trimmed derivation is a trace wherever the given steps are ok.
-use Rattle.std.proofs.Common.{◌≡◌, ◌∙◌, ℕ, zero, suc, ◌+◌, ◌-◌, ◌<◌, ◌≤◌, List, [], ◌∷◌, ◌++◌, map, take, length, get_or, refl, subst, sym, ap, inl, inr, arith}
-use Rattle.std.specs.Prelude.{Contains, ◌⊎◌, ◌↔◌, Option, Some, None, IsSome, AllPairs, MatchOption, slice_get, option_map}
+use Rattle.std.proofs.Common.{◌≡◌, ◌∙◌, ℕ, ◌-◌, ◌<◌, ◌≤◌, List, [], ◌∷◌, ◌++◌, map, take, length, get_or, refl, subst, sym, ap, inl, inr, arith}
+use Rattle.std.specs.Prelude.{Contains, ◌⊎◌, ◌↔◌, Some, IsSome, AllPairs, slice_get, option_map}
 use Rattle.std.specs.List.{AllZip}
-use Rattle.std.proofs.lemmas.List.Elements.{Contains-get_or}
 use Rattle.sat_base.proofs.Members.{Contains-here, Contains-there}
 use Rattle.sat_base.specs.Lit.{opposite}
 use Rattle.sat_base.specs.declared.origins.Ref.{Ref}
 use Rattle.sat_base.specs.declared.origins.Ref.TheVariants.{Input, Shared, Own}
 use Rattle.trace_core.specs.Known.{Known, known, item_at}
-use Rattle.trace_core.specs.Trace.{IsOkStep, AreOkSteps, AreOkPackets, known_of, IsTrace}
+use Rattle.trace_core.specs.Trace.{IsOkStep, known_of}
 use Rattle.trace_core.specs.declared.derivation.Step.{Step}
-use Rattle.trace_core.proofs.Soundness.{item_at-contains}
-use Rattle.trace_trim.specs.Names.{step_named, cited, AreCiting, Cites, IsBefore, CiteEarlierSteps, IsReached, IsCitedAlong}
-use Rattle.trace_trim.specs.Trimmed.{AreNamesReached, IsRenumberedHint, IsStepRenumbered, IsRenumbered, IsTrimmed, IsTraceWhereOk}
+use Rattle.trace_trim.specs.Names.{step_named, cited, AreCiting, IsBefore, CiteEarlierSteps, IsCitedAlong}
+use Rattle.trace_trim.specs.Trimmed.{AreNamesReached, IsRenumberedHint, IsRenumbered, IsTrimmed, IsTraceWhereOk}
 use Rattle.trace_trim.proofs.Order.{before_trans, not_before_itself}
 use Rattle.trace_trim.proofs.Found.{either_side}
 use Rattle.trace_trim.proofs.Zips.{zip_back, zip_item, zip_ends, item_at-front, item_at-map, slice_get-place, get_or-slice_get}

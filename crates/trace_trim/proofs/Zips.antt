@@ -1,6 +1,6 @@
 -- Items at one place of two lists that go together, and of a list that grows.
-use Rattle.std.proofs.Common.{◌≡◌, ◌∙◌, ℕ, zero, suc, ◌+◌, ◌-◌, ◌<◌, ◌≤◌, List, [], ◌∷◌, ◌++◌, map, take, length, get_or, refl, subst, sym, ap, inl, inr, arith}
-use Rattle.std.specs.Prelude.{Contains, Option, Some, None, Bool, true, false, cond, ◌==◌, slice_get, option_map}
+use Rattle.std.proofs.Common.{◌≡◌, ℕ, zero, suc, ◌-◌, ◌<◌, ◌≤◌, List, [], ◌∷◌, ◌++◌, map, take, length, get_or, refl, subst, ap, arith}
+use Rattle.std.specs.Prelude.{Option, Some, None, Bool, true, false, cond, ◌==◌, slice_get, option_map}
 use Rattle.std.specs.List.{AllZip}
 use Rattle.std.proofs.lemmas.Bool.Decides.{nat_tests}
 use Rattle.trace_core.specs.Known.{item_at}

@@ -1,5 +1,5 @@
 -- A trimmed derivation: the steps that the last one rests on, with numbers of their own.
-use Rattle.std.specs.Prelude.{◌≡◌, ℕ, ◌↔◌, ◌∷◌, [], ◌++◌, map, Option, Some, MatchOption, List, AllPairs, Contains}
+use Rattle.std.specs.Prelude.{◌≡◌, ℕ, ◌↔◌, ◌∷◌, [], ◌++◌, map, Some, MatchOption, List, AllPairs, Contains}
 use Rattle.std.specs.List.{AllZip}
 use Rattle.sat_base.specs.Lit.{opposite}
 use Rattle.sat_base.specs.declared.origins.Ref.{Ref}

@@ -1,10 +1,10 @@
-use Rattle.std.proofs.Common.{◌≡◌, ◌<◌, ◌≤◌, ◌+◌, length, rules, take, refl, subst, sym, arith}
+use Rattle.std.proofs.Common.{rules, refl, subst, sym, arith}
 use Rattle.std.specs.Prelude.{Contains, ◌↔◌, ◌⊎◌, slice_index_or}
 use Rattle.std.proofs.lemmas.List.{take_all}
 use Rattle.sat_base.specs.contracts.origins.RefOrd.TheImpl as ref_ord
 use Rattle.sat_base.specs.declared.origins.Ref.{Ref}
 use Rattle.sat_base.specs.declared.origins.Ref.TheVariants.{Input}
-use Rattle.trace_trim.specs.Names.{AreCiting, cited}
+use Rattle.trace_trim.specs.Names.{AreCiting}
 use Rattle.trace_trim.proofs.Keys.{keys_more, keys_same}
 use Rattle.trace_trim.proofs.Order.{same-from_equal}
 use Rattle.trace_trim.proofs.reach.add_cited.Goals as goal

@@ -1,4 +1,4 @@
-use Rattle.std.proofs.Common.{◌≡◌, take}
+use Rattle.std.proofs.Common.{take}
 use Rattle.std.specs.Prelude.{Contains, ◌↔◌, ◌⊎◌}
 use Rattle.sat_base.specs.declared.origins.Ref.{Ref}
 use Rattle.trace_trim.specs.Names.{AreCiting}

@@ -1,4 +1,4 @@
-use Rattle.std.proofs.Common.{◌≡◌, ◌∙◌, List, [], rules, map, refl, subst, sym, ap}
+use Rattle.std.proofs.Common.{◌≡◌, [], rules, map, subst, sym}
 use Rattle.std.specs.Prelude.{Contains, ◌↔◌, ◌⊎◌}
 use Rattle.std.specs.Arc.{arc_value}
 use Rattle.std.specs.declared.cmp.Ordering.TheVariants.{Less}
@@ -6,7 +6,7 @@ use Rattle.std.proofs.lemmas.List.Elements.{All-contains, Contains-push}
 use Rattle.sat_base.specs.contracts.origins.RefOrd.TheImpl as ref_ord
 use Rattle.sat_base.specs.declared.origins.Ref.{Ref}
 use Rattle.sat_base.specs.declared.origins.Ref.TheVariants.{Own}
-use Rattle.trace_trim.specs.Names.{AreCiting, IsBefore}
+use Rattle.trace_trim.specs.Names.{AreCiting}
 use Rattle.trace_trim.proofs.Order.{before-from_less}
 use Rattle.trace_trim.proofs.Walk.{begun, advanced, falls, over, none_left, IsWalk}
 use Rattle.trace_trim.proofs.reach.reached_from.Goals as goal

@@ -1,4 +1,3 @@
-use Rattle.std.proofs.Common.{◌≡◌, rules, subst, sym}
 use Rattle.trace_trim.proofs.Found.{not_missed, found_at}
 use Rattle.trace_trim.proofs.renumber.place_of.Goals as goal
 
