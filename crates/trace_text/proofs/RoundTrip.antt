@@ -1,14 +1,13 @@
 -- What is printed is read back.
-use Rattle.std.proofs.Common.{◌≡◌, ◌≢◌, ◌∙◌, ℕ, zero, suc, ◌+◌, ◌-◌, ◌*◌, ◌/◌, ◌%◌, ◌^◌, ◌<◌, ◌≤◌, List, [], ◌∷◌, ◌++◌, map, length, take, drop, get_or, Bool, true, false, cond, refl, sym, subst, ap, inl, inr, append_assoc, append-nil, arith}
-use Rattle.std.specs.Prelude.{Option, Some, None, Result, Ok, Err, ◌==◌, ◌⊎◌, All, IsTrue, codes, decimal, option_and_then, nat_le, nat_lt, ◌&&◌}
+use Rattle.std.proofs.Common.{◌≡◌, ◌≢◌, ◌∙◌, ℕ, ◌+◌, ◌-◌, ◌*◌, ◌/◌, ◌%◌, ◌^◌, ◌<◌, ◌≤◌, List, [], ◌∷◌, ◌++◌, map, length, take, get_or, Bool, true, false, cond, refl, sym, subst, ap, inl, inr, append_assoc, append-nil, arith}
+use Rattle.std.specs.Prelude.{Option, Some, Result, Ok, Err, ◌==◌, ◌⊎◌, All, IsTrue, codes, decimal, option_and_then, nat_le, nat_lt}
 use Rattle.std.specs.Option.{option_map}
 use Rattle.std.specs.List.{slice_split, flat_map, list_all}
 use Rattle.std.specs.Int.{IsInRange}
 use Rattle.std.specs.Str.{all_ascii_digits, bytes_eq}
-use Rattle.std.specs.Str.Parse.{digits_value}
-use Rattle.std.proofs.lemmas.Bool.{cases_Bool, both_ways}
+use Rattle.std.proofs.lemmas.Bool.{cases_Bool}
 use Rattle.std.proofs.lemmas.Bool.Decides.{nat_tests}
-use Rattle.std.proofs.lemmas.Fmt.{digits_decimal, decimal_is_IsNumeral, first_decimal, decimal_nonempty}
+use Rattle.std.proofs.lemmas.Fmt.{digits_decimal, decimal_is_IsNumeral, first_decimal}
 use Rattle.std.proofs.lemmas.List.Elements.{All-from_get_or, All-append, All-cons, All-nil, All-head, All-tail}
 use Rattle.std.proofs.lemmas.List.Splits.{slice_split_at}
 use Rattle.std.proofs.lemmas.Slice.Eq.{bytes_eq-Decides}
@@ -20,10 +19,10 @@ use Rattle.sat_base.specs.declared.origins.Ref.{Ref}
 use Rattle.sat_base.specs.declared.origins.Ref.TheVariants.{Input, Shared, Own}
 use Rattle.trace_core.specs.declared.derivation.Step.{Step}
 use Rattle.sat_base.specs.Lit.{IsLit, IsLitSet, is_negative, variable, is_ascending}
-use Rattle.trace_text.specs.Line.{Line, Front, number_of, variable_of, lit_of, until_zero, all_then_zero, fields_of, line_of_tokens, line_of, tokens_of, lit_text, hint_text, line_text}
+use Rattle.trace_text.specs.Line.{Line, Front, number_of, variable_of, lit_of, until_zero, all_then_zero, line_of, tokens_of, lit_text, hint_text, line_text}
 use Rattle.trace_text.proofs.Digits.{number_is, variable_is, lit_of-minus, lit_of-plain}
-use Rattle.trace_text.proofs.Tokens.{until_zero-more, each_then-more, parts}
-use Rattle.trace_text.specs.Text.{number_of_hint, hint_of_number, IsHintBelow, CiteEarlier, line_of_step, steps_text, is_in_order, tag_of_hints, tags_with, step_said, and_others, steps_of_lines, lines_of, HaveExactTags, ArePrinted}
+use Rattle.trace_text.proofs.Tokens.{until_zero-more, each_then-more}
+use Rattle.trace_text.specs.Text.{number_of_hint, hint_of_number, IsHintBelow, CiteEarlier, line_of_step, steps_text, tag_of_hints, tags_with, step_said, and_others, steps_of_lines, lines_of, HaveExactTags, ArePrinted}
 use Rattle.trace_text.specs.declared.faults.TraceFault.{TraceFault}
 use Rattle.trace_text.specs.declared.faults.TraceFault.TheVariants.{Memory}
 use Rattle.trace_text.proofs.LineLemmas.{fields, line_fields}

@@ -1,4 +1,4 @@
-use Rattle.std.proofs.Common.{◌≡◌, ◌∙◌, ap, subst, sym}
+use Rattle.std.proofs.Common.{subst}
 use Rattle.std.proofs.lemmas.List.Elements.{All-more}
 use Rattle.sat_base.specs.Lit.{IsLitSet}
 use Rattle.trace_core.specs.declared.derivation.Step.{Step}
