@@ -1,0 +1,16 @@
+pub mod Marks
+pub mod Grown
+pub mod Named
+pub mod Members
+pub mod Forced
+pub mod Opened
+pub mod Walked
+pub mod Parts
+pub mod Sorts
+pub mod Runs
+pub mod Hinted
+pub mod Graph
+pub mod Taught
+pub mod New
+pub mod Justified
+pub mod Collected
