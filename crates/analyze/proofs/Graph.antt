@@ -35,7 +35,7 @@ has_clause trail clauses met place founded within (inr r) = by_level (cases_eq (
     by_level (inr high) = record { within = within; known = inr (r.id, r.reason, (forced clauses trail.entries trail.depth place r.id founded within (omega arith) r.reason).known) }
 
 -- the other literals of the clause for a place are false at places before, which are met
-others_before : (trail : TrailView) (clauses : List ArenaClause) (met : List ℕ) (place lit : ℕ) → IsFounded (lits_of_each clauses) trail.entries trail.depth → place < length trail.entries
+pub others_before : (trail : TrailView) (clauses : List ArenaClause) (met : List ℕ) (place lit : ℕ) → IsFounded (lits_of_each clauses) trail.entries trail.depth → place < length trail.entries
     → (level_at trail.entries place ≡ 0) ⊎ IsResolvable clauses trail.entries met place → Contains (lits_for clauses trail.entries place) lit → lit ≢ lit_at trail.entries place
     → (k : ℕ) × (k < place) × (lit_at trail.entries k ≡ opposite lit) × Contains met k
 others_before trail clauses met place lit founded within can stands differs = by_level can (cases_eq (level_at trail.entries place) 0)
@@ -58,7 +58,7 @@ others_before trail clauses met place lit founded within can stands differs = by
         (k.0, k.1, k.2, r.meets lit there k.0 (stands_false trail.entries lit k.0 (omega (arith, k.1)) k.2))
 
 -- the clause for a place has its literal
-own_literal : (trail : TrailView) (clauses : List ArenaClause) (met : List ℕ) (place : ℕ) → IsFounded (lits_of_each clauses) trail.entries trail.depth → place < length trail.entries
+pub own_literal : (trail : TrailView) (clauses : List ArenaClause) (met : List ℕ) (place : ℕ) → IsFounded (lits_of_each clauses) trail.entries trail.depth → place < length trail.entries
     → (level_at trail.entries place ≡ 0) ⊎ IsResolvable clauses trail.entries met place → Contains (lits_for clauses trail.entries place) (lit_at trail.entries place)
 own_literal trail clauses met place founded within can = by_level can (cases_eq (level_at trail.entries place) 0)
   where

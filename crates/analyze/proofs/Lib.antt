@@ -14,3 +14,4 @@ pub mod Taught
 pub mod New
 pub mod Justified
 pub mod Collected
+pub mod Blamed

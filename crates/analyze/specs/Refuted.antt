@@ -1,5 +1,5 @@
 -- What a refuted part is.
-use Rattle.std.specs.Prelude.{◌≡◌, ℕ, ◌↔◌, ◌⊎◌, List, [], map, Contains, Option}
+use Rattle.std.specs.Prelude.{◌≡◌, ℕ, ◌↔◌, ◌⊎◌, List, [], map, length, Contains, Option}
 use Rattle.sat_base.specs.Lit.{opposite, IsTautology}
 use Rattle.sat_base.specs.declared.origins.Ref.{Ref}
 use Rattle.trace_core.specs.Known.{Known, clause_of}
@@ -24,3 +24,11 @@ pub record IsRefutedBy (table : Ref → Option Known) (step : Step) : Type 0 whe
   pub ok : IsOkStep table step
   pub covered : (IsTautology step.clause × (step.hints ≡ []))
       ⊎ ((lit : ℕ) → Contains step.clause lit → StandsInOneOf (map (λ hint. clause_of (table hint)) step.hints) lit)
+
+-- the two literals of a variable as the part, and the tautology of them, which needs no hint
+pub record IsExcludedOf (lit : ℕ) (part : List ℕ) (step : Step) : Type 0 where
+  pub members : (other : ℕ) → Contains part other ↔ ((other ≡ lit) ⊎ (other ≡ opposite lit))
+  pub same : step.clause ≡ part
+  pub two : length step.clause ≡ 2
+  pub no_hints : step.hints ≡ []
+  pub no_tag : step.tag ≡ 0
