@@ -15,3 +15,4 @@ pub mod New
 pub mod Justified
 pub mod Collected
 pub mod Blamed
+pub mod Excluded

@@ -11,7 +11,8 @@ use Rattle.analyze.specs.Table.{KnowsArena, KnowsUnits}
 use Rattle.analyze.specs.Refuted.{IsPart, IsNegationOf, IsRefutedBy, IsExcludedOf}
 use Rattle.analyze.specs.Naming.{HasClause, name_for, tag_for}
 use Rattle.analyze.proofs.Collected.{ok_weaker}
-use Rattle.analyze.proofs.Blamed.{Blamed, IsPartOf, top_of, decided, not_decided, is_part, kept_in_trail, clauses_there, refuted_by, excluded, excluded_part, excluded_by}
+use Rattle.analyze.proofs.Blamed.{Blamed, IsPartOf, top_of, decided, not_decided, is_part, kept_in_trail, clauses_there, refuted_by}
+use Rattle.analyze.proofs.Excluded.{excluded, excluded_part, excluded_by}
 use Rattle.analyze.proofs.refuting.blame.Goals as goal
 
 pub index-requires : goal.index-requires

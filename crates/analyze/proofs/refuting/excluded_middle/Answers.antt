@@ -1,5 +1,5 @@
 use Rattle.std.proofs.Common.{◌∙◌, List, ℕ, length, refl, ap, sym}
-use Rattle.analyze.proofs.Blamed.{both_members}
+use Rattle.analyze.proofs.Excluded.{both_members}
 use Rattle.analyze.proofs.refuting.excluded_middle.Goals as goal
 
 pub returns : goal.returns
