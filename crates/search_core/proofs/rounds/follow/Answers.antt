@@ -1,0 +1,21 @@
+use Rattle.std.proofs.Common.{◌≤◌, arith}
+use Rattle.sat_base.specs.Lit.{variable}
+use Rattle.sat_base.proofs.Members.{All-from_members}
+use Rattle.search_core.proofs.Learnings.{below_greatest}
+use Rattle.search_core.proofs.Settled.{same_stepped}
+use Rattle.search_core.proofs.Modelled.{model_of}
+use Rattle.search_core.proofs.rounds.follow.Goals as goal
+
+pub next_move-requires-clause-within : goal.next_move-requires-clause-within
+next_move-requires-clause-within c =
+    All-from_members (λ lit. variable lit ≤ c.args.vars) c.args.cube.now (λ lit has. (let low = below_greatest c.args.cube.now lit has in omega (arith, low, c.requires.fits.are)))
+
+pub returns-in_err-part-in-Blame-clause-same : goal.returns-in_err-part-in-Blame-clause-same
+returns-in_err-part-in-Blame-clause-same c = same_stepped c.args.search.now c.refute_literal.new.search c.in_err-part-in-Blame.ensures.parts c.in_err-part-in-Blame.ensures.steps
+
+pub returns-in_ok-part-in-Blame-clause-same : goal.returns-in_ok-part-in-Blame-clause-same
+returns-in_ok-part-in-Blame-clause-same c = same_stepped c.args.search.now c.refute_literal.new.search c.in_ok-part-in-Blame.ensures.parts c.in_ok-part-in-Blame.ensures.steps
+
+pub returns-in_ok-model-in-Stop-clause-ends : goal.returns-in_ok-model-in-Stop-clause-ends
+returns-in_ok-model-in-Stop-clause-ends c =
+    model_of c.args.search.now c.args.cube.now c.args.vars c.in_ok-model-in-Stop.model c.requires.kept c.requires.trail c.requires.fits.set c.requires.fits.are c.requires.complete c.in-Stop.ensures c.in_ok-model-in-Stop.ensures

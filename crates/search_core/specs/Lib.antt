@@ -1,0 +1,12 @@
+pub mod Solver
+pub mod Stock
+pub mod OnTrail
+pub mod Units
+pub mod Searching
+pub mod Moves
+pub mod Models
+pub mod Learning
+pub mod Lessons
+pub mod Refutations
+pub mod Rounds
+pub mod Solving

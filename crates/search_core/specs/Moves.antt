@@ -1,0 +1,34 @@
+-- What a search does next, where no clause is false or unit.
+use Rattle.std.specs.Prelude.{◌⊎◌, ℕ, ◌≤◌, List, Contains}
+use Rattle.sat_base.specs.Lit.{IsLit, variable}
+use Rattle.trail_core.specs.UnderTrail.{IsFalseLit, IsUnassigned}
+use Rattle.search_core.specs.declared.moves.Move.{Move}
+use Rattle.search_core.specs.declared.moves.Move.TheVariants.{Decide, Blame, Stop}
+
+-- each literal of the cube is true
+abbrev pub IsCubeTrue : List ℕ → List ℕ → Type 0
+IsCubeTrue trues cube = (lit : ℕ) → Contains cube lit → Contains trues lit
+
+-- each of the variables 1 to the last is assigned
+abbrev pub AreAssigned : List ℕ → ℕ → Type 0
+AreAssigned trues vars = (lit : ℕ) → IsLit lit → variable lit ≤ vars → IsUnassigned trues lit → ⊥
+
+-- a decision may be a literal of the cube, or any of the variables where the cube is true
+pub record IsDecidable (trues cube : List ℕ) (vars lit : ℕ) : Type 0 where
+  pub is : IsLit lit
+  pub within : variable lit ≤ vars
+  pub free : IsUnassigned trues lit
+  pub allowed : Contains cube lit ⊎ IsCubeTrue trues cube
+
+pub record IsToBlame (trues cube : List ℕ) (lit : ℕ) : Type 0 where
+  pub stands : Contains cube lit
+  pub refuted : IsFalseLit trues lit
+
+pub record IsWhole (trues cube : List ℕ) (vars : ℕ) : Type 0 where
+  pub holds : IsCubeTrue trues cube
+  pub assigned : AreAssigned trues vars
+
+abbrev pub IsMove : List ℕ → List ℕ → ℕ → Move → Type 0
+IsMove trues cube vars (Decide lit) = IsDecidable trues cube vars lit
+IsMove trues cube vars (Blame lit) = IsToBlame trues cube lit
+IsMove trues cube vars Stop = IsWhole trues cube vars

@@ -1,0 +1,65 @@
+-- A solver as contracts see it, and what it keeps.
+use Rattle.std.specs.Prelude.{◌≡◌, ℕ, ◌≤◌, nat_lt, ◌==◌, Bool, true, false, if◌then◌else◌, List, [], ◌∷◌, map, filter, All, Contains, Option, Some}
+use Rattle.sat_base.specs.declared.origins.Ref.{Ref}
+use Rattle.sat_base.specs.declared.origins.Ref.TheVariants.{Input, Shared, Own}
+use Rattle.sat_base.specs.Truth.{Entails}
+use Rattle.trace_core.specs.Known.{Known, known, item_at}
+use Rattle.trace_core.specs.Law.{clauses_up_to}
+use Rattle.trace_core.specs.Trace.{AreOkSteps, known_of}
+use Rattle.trace_core.specs.declared.derivation.Step.{Step}
+use Rattle.clause_arena.specs.Arena.{ArenaClause}
+
+-- the literal among these, which ascend, unless it is there
+abbrev pub put_in : ℕ → List ℕ → List ℕ
+put_in lit [] = lit ∷ []
+put_in lit (other ∷ lits) = if nat_lt lit other then lit ∷ other ∷ lits else (if lit == other then other ∷ lits else other ∷ put_in lit lits)
+
+-- the literals of a clause in their one order
+abbrev pub in_order : List ℕ → List ℕ
+in_order [] = []
+in_order (lit ∷ lits) = put_in lit (in_order lits)
+
+-- The inputs, each with the number of the first job that has it; the number of the job that is loaded; the clauses that are held;
+-- the own steps, and the numbers of those that are learnt clauses.
+pub record Solver : Type 0 where
+  pub inputs : List Known
+  pub bound : ℕ
+  pub held : List Known
+  pub steps : List Step
+  pub learnt : List ℕ
+
+abbrev pub clauses_of : List Known → List (List ℕ)
+clauses_of knowns = map (λ one. one.clause) knowns
+
+-- what a reference names to a solver with these inputs and steps
+abbrev pub named_by : List Known → List Step → Ref → Option Known
+named_by inputs steps = known inputs [] (map known_of steps)
+
+-- the clause of that own step, counted from 1
+abbrev pub IsStep : List Step → ℕ → Known → Type 0
+IsStep steps number one = item_at (map known_of steps) number ≡ Some one
+
+-- What every solver keeps, whatever calls come: each input is held; each held clause follows from the inputs up to its tag, and no
+-- tag is above the bound; each own step is ok with exact tag over the inputs and the steps before it; and learnt steps are held.
+pub record IsSound (solver : Solver) : Type 0 where
+  pub inputs_held : All (Contains solver.held) solver.inputs
+  pub entailed : All (λ one. Entails (clauses_up_to solver.inputs one.tag) one.clause) solver.held
+  pub bounded : All (λ one. one.tag ≤ solver.bound) solver.held
+  pub ok : AreOkSteps solver.inputs [] [] solver.steps
+  pub learnt_held : All (λ number. (one : Known) × IsStep solver.steps number one × Contains solver.held one) solver.learnt
+
+-- a clause as a set with its tag
+abbrev pub known_clause : ArenaClause → Known
+known_clause clause = record { clause = in_order clause.lits; tag = clause.tag }
+
+abbrev pub is_input : Ref → Bool
+is_input (Input number) = true
+is_input (Shared packet step) = false
+is_input (Own number) = false
+
+-- the inputs are the clauses that are named as such
+abbrev pub inputs_of : List ArenaClause → List Known
+inputs_of clauses = map known_clause (filter (λ clause. is_input clause.origin) clauses)
+
+abbrev pub held_of : List ArenaClause → List Known
+held_of clauses = map known_clause clauses

@@ -1,0 +1,28 @@
+//! The search of one incremental solver: conflict-driven clause learning whose every answer has its derivation.
+//!
+//! The layer above keeps a `Search`, adds inputs with their tags, and calls `solve` for a cube; it reads
+//! `specs/Solver.antt` for what a solver is, and `specs/Solving.antt` for what a call does. What a search keeps
+//! between calls is `IsSearching`, which each call asks and gives back. This crate knows no text, no job and
+//! no other solver.
+#![tactic(auto)]
+
+mod conflicts;
+mod inputs;
+mod laws;
+mod models;
+mod moves;
+mod naming;
+mod refuting;
+mod rounds;
+mod search;
+mod settling;
+mod solving;
+#[cfg(test)]
+mod tests;
+mod unit_steps;
+
+pub use inputs::{add_input, reserve};
+pub use laws::a_search_is_sound;
+pub use rounds::Round;
+pub use search::Search;
+pub use solving::solve;

@@ -1,0 +1,87 @@
+//! The next decision.
+
+ghost use Rattle.std.specs.Prelude.{◌≡◌, ℕ, ◌≤◌, ◌<◌, IfSome, IfNone, MatchBool, All, Contains};
+ghost use Rattle.sat_base.specs.Lit.{IsLit, variable};
+ghost use Rattle.trail_core.specs.Trail.{IsTrail, lits_of};
+ghost use Rattle.trail_core.specs.UnderTrail.{IsTrueLit, IsUnassigned};
+ghost use Rattle.search_core.specs.Moves.{IsMove, IsCubeTrue, AreAssigned};
+
+use sat_base::{Cube, Lit};
+use trail_core::Trail;
+
+/// What a search does next, once propagation is complete.
+#[derive(Clone, Copy, Debug, PartialEq, Eq)]
+pub(crate) enum Move {
+    /// The next decision.
+    Decide(Lit),
+    /// A literal of the cube that is false.
+    Blame(Lit),
+    /// Every variable is assigned.
+    Stop,
+}
+
+/// The cube's first literal that isn't true comes first, as the next decision where it is unassigned. Then it
+/// is a free variable, and none is left where the trail is a model.
+pub(crate) fn next_move(trail: &Trail, cube: &Cube, vars: u32) -> Move
+    requires few { vars ≤ 8388607 }
+    requires within { All (λ lit. variable lit ≤ vars) cube.now }
+    ensures { IsMove (lits_of trail.now.entries) cube.now vars result }
+{
+    if let Some(lit) = first_open(trail, cube) {
+        return match trail.value(lit) {
+            Some(_) => Move::Blame(lit),
+            None => Move::Decide(lit),
+        };
+    }
+    match next_free(trail, vars) {
+        Some(lit) => Move::Decide(lit),
+        None => Move::Stop,
+    }
+}
+
+// The first literal of the cube that isn't true.
+fn first_open(trail: &Trail, cube: &Cube) -> Option<Lit>
+    ensures some { IfSome result (λ lit. IsLit lit × Contains cube.now lit × (IsTrueLit (lits_of trail.now.entries) lit → ⊥)) }
+    ensures none { IfNone result (IsCubeTrue (lits_of trail.now.entries) cube.now) }
+{
+    for lit in cube.lits() {
+        if !is_true(trail, *lit) {
+            return Some(*lit);
+        }
+    }
+    None
+}
+
+pub(crate) fn is_true(trail: &Trail, lit: Lit) -> bool
+    ensures value { MatchBool result (IsTrueLit (lits_of trail.now.entries) lit) (IsTrueLit (lits_of trail.now.entries) lit → ⊥) }
+    ensures trail { IsTrail trail.now }
+{
+    match trail.value(lit) {
+        Some(value) => value,
+        None => false,
+    }
+}
+
+// The place where a free variable is chosen: the least one, which becomes false.
+fn next_free(trail: &Trail, vars: u32) -> Option<Lit>
+    requires { vars ≤ 8388607 }
+    ensures some { IfSome result (λ lit. IsLit lit × (variable lit ≤ vars) × IsUnassigned (lits_of trail.now.entries) lit) }
+    ensures none { IfNone result (AreAssigned (lits_of trail.now.entries) vars) }
+{
+    for var in 1..vars + 1 {
+        let lit = negative(var);
+        if trail.value(lit).is_none() {
+            return Some(lit);
+        }
+    }
+    None
+}
+
+// The negative literal of a variable.
+fn negative(var: u32) -> Lit
+    requires low { 1 ≤ var }
+    requires high { var ≤ 8388607 }
+    ensures { variable result ≡ var }
+{
+    Lit::of(-(var as i32)).unwrap()
+}
