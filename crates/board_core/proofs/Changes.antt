@@ -1,5 +1,5 @@
 -- The index after one more entry, by the kind of the entry.
-use Rattle.std.proofs.Common.{◌≡◌, ◌∙◌, ◌≢◌, ◌⊎◌, inl, inr, ℕ, zero, suc, ◌+◌, ◌-◌, ◌<◌, ◌≤◌, Bool, true, false, cond, Some, None, List, [], ◌∷◌, ◌++◌, map, length, refl, ap, sym, subst, arith, ◌==◌, Vec, length-append}
+use Rattle.std.proofs.Common.{Option, ◌≡◌, ◌∙◌, ◌≢◌, ◌⊎◌, inl, inr, ℕ, zero, suc, ◌+◌, ◌-◌, ◌<◌, ◌≤◌, Bool, true, false, cond, Some, None, List, [], ◌∷◌, ◌++◌, map, length, refl, ap, sym, subst, arith, ◌==◌, Vec, length-append}
 use Rattle.std.specs.Prelude.{count_by, sum_by, IsSome, is_some, slice_get, slice_set, if◌then◌else◌}
 use Rattle.std.specs.Arc.{arc_value}
 use Rattle.std.specs.declared.sync.Arc.{Arc}
@@ -20,6 +20,7 @@ use Rattle.entry_core.specs.Attempts.{Attempt, begun_by, attempts, ended_by, is_
 use Rattle.entry_core.specs.Settled.{or_else, given_if, settled, settled_up_to, settled_jobs}
 use Rattle.entry_core.proofs.LongerJournals.{tagged-append}
 use Rattle.board_core.specs.declared.index.Ending.TheVariants as ending
+use Rattle.tournament.specs.declared.rank.Rank.{Rank}
 use Rattle.board_core.specs.declared.index.JobState.{JobState}
 use Rattle.board_core.specs.declared.index.Index.{Index}
 use Rattle.board_core.specs.Index.{new_job, or_new, state_at, IsEndingOf, IsStateOf, IsOrderly, IsIndexOf}
@@ -180,10 +181,10 @@ test_other : (n k : ℕ) → k ≢ n → (n == k) ≡ false
 test_other n k differs = grind (arith, nat_tests)
 
 -- a cancelled job
-pub index_cancelled : (rules : Rules) (journal : List Entry) (index : Index) (caller job : ℕ) (states : Vec JobState Global) → IsBase rules journal → IsIndexOf rules journal index
+pub index_cancelled : (rules : Rules) (journal : List Entry) (index : Index) (caller job : ℕ) (states : Vec JobState Global) (waiting : List (Option Rank)) → IsBase rules journal → IsIndexOf rules journal index
     → 1 ≤ job → job ≤ jobs journal → settled rules journal job ≡ None → states.items ≡ slice_set index.jobs.items (job - 1) (record (state_at index.jobs.items job) { ending = Some ending.Cancelled })
-    → IsIndexOf rules (journal ++ entry_by caller (event.Cancelled job) ∷ []) (record index { jobs = states; settled = index.settled + 1 })
-index_cancelled rules journal index caller job states base is from to unsettled written =
+    → IsIndexOf rules (journal ++ entry_by caller (event.Cancelled job) ∷ []) (record index { jobs = states; waiting = waiting; settled = index.settled + 1 })
+index_cancelled rules journal index caller job states waiting base is from to unsettled written =
     let entry : Entry = entry_by caller (event.Cancelled job) in
     let longer : List Entry = journal ++ entry ∷ [] in
     let cancels : settled rules longer job ≡ Some (verdict.Cancelled 0) =
@@ -217,10 +218,10 @@ index_cancelled rules journal index caller job states base is from to unsettled 
     }
 
 -- vectors that have the same items
-pub index_grown : (rules : Rules) (journal : List Entry) (index : Index) (states : Vec JobState Global) (added : Vec (Arc Segment Global) Global) (kept : Vec (Arc Packet Global) Global) (begun : Vec ℕ Global)
+pub index_grown : (rules : Rules) (journal : List Entry) (index : Index) (states : Vec JobState Global) (added : Vec (Arc Segment Global) Global) (kept : Vec (Arc Packet Global) Global) (begun : Vec ℕ Global) (waiting : List (Option Rank))
     → states.items ≡ index.jobs.items → added.items ≡ index.segments.items → kept.items ≡ index.packets.items → begun.items ≡ index.attempts.items → IsIndexOf rules journal index
-    → IsIndexOf rules journal (record index { jobs = states; segments = added; packets = kept; attempts = begun })
-index_grown rules journal index states added kept begun same_states same_added same_kept same_begun is = record {
+    → IsIndexOf rules journal (record index { jobs = states; segments = added; packets = kept; attempts = begun; waiting = waiting })
+index_grown rules journal index states added kept begun waiting same_states same_added same_kept same_begun is = record {
   jobs = ap length same_states ∙ is.jobs;
   states = subst (λ items. (job : ℕ) → IsStateOf rules journal job (state_at items job)) (sym same_states) is.states;
   segments = ap (map arc_value) same_added ∙ is.segments;
@@ -268,11 +269,11 @@ pub jobs_push : (journal : List Entry) (entry : Entry) (segment : Segment) → s
 jobs_push journal entry segment more = let one : length (segments journal ++ segment ∷ []) ≡ length (segments journal) + 1 = length_push (segments journal) segment in ap length more ∙ one ∙ omega arith
 
 -- a job more
-pub index_added : (rules : Rules) (journal : List Entry) (index : Index) (caller : ℕ) (segment copy : Arc Segment Global) (states : Vec JobState Global) (added : Vec (Arc Segment Global) Global) (clauses occurrences : ℕ)
+pub index_added : (rules : Rules) (journal : List Entry) (index : Index) (caller : ℕ) (segment copy : Arc Segment Global) (states : Vec JobState Global) (added : Vec (Arc Segment Global) Global) (waiting : List (Option Rank)) (clauses occurrences : ℕ)
     → IsBase rules journal → IsIndexOf rules journal index → states.items ≡ index.jobs.items ++ new_job ∷ [] → added.items ≡ index.segments.items ++ copy ∷ [] → arc_value copy ≡ arc_value segment
     → clauses ≡ length (arc_value segment).clauses → occurrences ≡ segment_literals (arc_value segment)
-    → IsIndexOf rules (journal ++ entry_by caller (event.Added segment) ∷ []) (record index { jobs = states; segments = added; clauses = index.clauses + clauses; literals = index.literals + occurrences })
-index_added rules journal index caller segment copy states added clauses occurrences base is more_states more_added same same_clauses same_literals =
+    → IsIndexOf rules (journal ++ entry_by caller (event.Added segment) ∷ []) (record index { jobs = states; segments = added; waiting = waiting; clauses = index.clauses + clauses; literals = index.literals + occurrences })
+index_added rules journal index caller segment copy states added waiting clauses occurrences base is more_states more_added same same_clauses same_literals =
     let entry : Entry = entry_by caller (event.Added segment) in
     let longer : List Entry = journal ++ entry ∷ [] in
     let more : segments longer ≡ segments journal ++ arc_value segment ∷ [] = read_on (λ (e : Entry). segment_of e.event) journal entry (arc_value segment) refl in

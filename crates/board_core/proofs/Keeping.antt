@@ -1,11 +1,12 @@
 -- What a board keeps, after each kind of entry.
-use Rattle.std.proofs.Common.{◌≡◌, ◌∙◌, ℕ, ◌+◌, ◌-◌, ◌<◌, ◌≤◌, Bool, true, false, Some, None, List, [], ◌∷◌, ◌++◌, length, refl, ap, sym, subst, arith, Vec, vec_len, vec_capacity}
+use Rattle.std.proofs.Common.{Option, ◌≡◌, ◌∙◌, ℕ, ◌+◌, ◌-◌, ◌<◌, ◌≤◌, Bool, true, false, Some, None, List, [], ◌∷◌, ◌++◌, length, refl, ap, sym, subst, arith, Vec, vec_len, vec_capacity}
 use Rattle.std.specs.Prelude.{is_some, sum_by, slice_set, if◌then◌else◌}
 use Rattle.std.specs.Arc.{arc_value}
 use Rattle.std.specs.declared.sync.Arc.{Arc}
 use Rattle.std.specs.declared.alloc.Global.{Global}
 use Rattle.std.proofs.lemmas.List.{length_push, length-set, length-map}
 use Rattle.std.proofs.lemmas.List.Sums.{count_by-le-length}
+use Rattle.tournament.specs.declared.rank.Rank.{Rank}
 use Rattle.trace_core.specs.declared.derivation.Packet.{Packet}
 use Rattle.entry_core.specs.declared.entries.Entry.{Entry}
 use Rattle.entry_core.specs.declared.entries.Event.TheVariants as event
@@ -16,13 +17,14 @@ use Rattle.entry_core.specs.Legal.{IsClient, IsWorker, IsLegal, IsShareable}
 use Rattle.board_core.specs.declared.board.Board.TheInside.{Inside}
 use Rattle.board_core.specs.declared.index.Ending.TheVariants as ending
 use Rattle.board_core.specs.declared.index.JobState.{JobState}
-use Rattle.board_core.specs.Index.{new_job, state_at, IsIndexOf, IsOrderly, room, IsCountable}
+use Rattle.board_core.specs.Index.{new_job, state_at, rank_of, ranks_from, IsIndexOf, IsOrderly, room, IsCountable}
 use Rattle.board_core.specs.Kept.{state_of, AreFew, IsKept}
 use Rattle.board_core.specs.Replies.{IsUnsettled, HasRoomFor}
 use Rattle.board_core.proofs.Readings.{legal_push, read_on}
 use Rattle.board_core.proofs.Verdicts.{entry_by}
 use Rattle.board_core.proofs.Indexed.{orderly_on}
 use Rattle.board_core.proofs.Changes.{IsBase, same_segments, same_packets, same_attempts, index_closed, index_cancelled, index_grown, index_shared, index_added, jobs_push, inputs_push, literals_push}
+use Rattle.board_core.proofs.Ranked.{ranks_push, ranks_set, ranks_length}
 use Rattle.board_core.proofs.Tallies.{tally_le, tally_lt}
 
 pub base_of : (a : Inside) → IsKept a → IsBase a.rules a.journal.items
@@ -44,6 +46,19 @@ few_on journal entry few adds begins shares =
 pub few_packets : (journal : List Entry) (entry : Entry) → AreFew journal → packet_of entry.event ≡ None → length (packets_of (journal ++ entry ∷ [])) ≤ 4194304
 few_packets journal entry few none = subst (λ n. n ≤ 4194304) (ap length (sym (same_packets journal entry none))) few.packets
 
+-- each job has its entrant
+pub all_entered : (a : Inside) → IsKept a → length a.index.waiting ≡ length a.index.jobs.items
+all_entered a kept = ap length kept.waiting ∙ ranks_length a.rules.attempts 1 a.index.jobs.items
+
+pub ranks_written : (a : Inside) (states : Vec JobState Global) (waiting : List (Option Rank)) (job : ℕ) (state : JobState) → IsKept a → 1 ≤ job
+    → states.items ≡ slice_set a.index.jobs.items (job - 1) state → waiting ≡ slice_set a.index.waiting (job - 1) (rank_of a.rules.attempts job state)
+    → waiting ≡ ranks_from a.rules.attempts 1 states.items
+ranks_written a states waiting job state kept from written ranked =
+    let place : job ≡ 1 + (job - 1) = omega arith in
+    ranked ∙ ap (λ all. slice_set all (job - 1) (rank_of a.rules.attempts job state)) kept.waiting
+    ∙ ap (λ n. slice_set (ranks_from a.rules.attempts 1 a.index.jobs.items) (job - 1) (rank_of a.rules.attempts n state)) place
+    ∙ sym (ranks_set a.rules.attempts 1 a.index.jobs.items (job - 1) state) ∙ ap (ranks_from a.rules.attempts 1) (sym written)
+
 pub kept_closed : (a : Inside) (after : Vec Entry Global) (caller place : ℕ) → IsKept a → IsClient a.rules caller → a.index.closed ≡ None
     → after.items ≡ a.journal.items ++ entry_by caller event.Closed ∷ [] → vec_capacity after ≡ vec_capacity a.journal → place ≡ vec_len after
     → IsKept (record a { journal = after; index = record a.index { closed = Some place } })
@@ -59,6 +74,7 @@ kept_closed a after caller place kept client none more capacity here =
       few = subst AreFew (sym more) (few_on a.journal.items entry kept.few refl refl (few_packets a.journal.items entry kept.few refl));
       orderly = subst IsOrderly (sym more) (orderly_on a.journal.items entry kept.orderly refl (λ n is. absurd (cc)));
       index = subst (λ all. IsIndexOf a.rules all (record a.index { closed = Some place })) (sym more) (index_closed a.rules a.journal.items a.index caller place (base_of a kept) kept.index none (here ∙ after.ok.0 ∙ longer));
+      waiting = kept.waiting;
       room = room_closed (length a.index.jobs.items - a.index.settled) a.index.open_now _ _ _ _ (is_some a.index.closed) owed kept.room longer capacity;
     }
   where
@@ -87,11 +103,12 @@ settled_few a kept =
     let le = tally_le a.rules a.journal.items (jobs a.journal.items) in
     let s = kept.index.settled in let few = kept.few.jobs in omega arith
 
-pub kept_cancelled : (a : Inside) (after : Vec Entry Global) (states : Vec JobState Global) (caller job : ℕ) → IsKept a → IsClient a.rules caller → IsUnsettled (state_of a) job
+pub kept_cancelled : (a : Inside) (after : Vec Entry Global) (states : Vec JobState Global) (waiting : List (Option Rank)) (caller job : ℕ) → IsKept a → IsClient a.rules caller → IsUnsettled (state_of a) job
     → after.items ≡ a.journal.items ++ entry_by caller (event.Cancelled job) ∷ [] → vec_capacity after ≡ vec_capacity a.journal
     → states.items ≡ slice_set a.index.jobs.items (job - 1) (record (state_at a.index.jobs.items job) { ending = Some ending.Cancelled })
-    → IsKept (record a { journal = after; index = record a.index { jobs = states; settled = a.index.settled + 1 } })
-kept_cancelled a after states caller job kept client unsettled more capacity written =
+    → waiting ≡ slice_set a.index.waiting (job - 1) (rank_of a.rules.attempts job (record (state_at a.index.jobs.items job) { ending = Some ending.Cancelled }))
+    → IsKept (record a { journal = after; index = record a.index { jobs = states; waiting = waiting; settled = a.index.settled + 1 } })
+kept_cancelled a after states waiting caller job kept client unsettled more capacity written ranked =
     let entry : Entry = entry_by caller (event.Cancelled job) in
     let longer : length after.items ≡ length a.journal.items + 1 = ap length more ∙ length_push a.journal.items entry in
     let size : length states.items ≡ length a.index.jobs.items = ap length written ∙ length-set a.index.jobs.items (job - 1) (record (state_at a.index.jobs.items job) { ending = Some ending.Cancelled }) in
@@ -102,8 +119,9 @@ kept_cancelled a after states caller job kept client unsettled more capacity wri
           (record { client = client; from_one = unsettled.there.from_one; added = unsettled.there.added; unsettled = unsettled.unsettled }));
       few = subst AreFew (sym more) (few_on a.journal.items entry kept.few refl refl (few_packets a.journal.items entry kept.few refl));
       orderly = subst IsOrderly (sym more) (orderly_on a.journal.items entry kept.orderly refl (λ n is. absurd (cc)));
-      index = subst (λ all. IsIndexOf a.rules all (record a.index { jobs = states; settled = a.index.settled + 1 })) (sym more)
-          (index_cancelled a.rules a.journal.items a.index caller job states (base_of a kept) kept.index unsettled.there.from_one unsettled.there.added unsettled.unsettled written);
+      index = subst (λ all. IsIndexOf a.rules all (record a.index { jobs = states; waiting = waiting; settled = a.index.settled + 1 })) (sym more)
+          (index_cancelled a.rules a.journal.items a.index caller job states waiting (base_of a kept) kept.index unsettled.there.from_one unsettled.there.added unsettled.unsettled written);
+      waiting = ranks_written a states waiting job (record (state_at a.index.jobs.items job) { ending = Some ending.Cancelled }) kept unsettled.there.from_one written ranked;
       room = room_settled (length a.index.jobs.items) (length states.items) a.index.settled a.index.open_now _ _ _ _ (is_some a.index.closed) (unsettled_lt a job kept unsettled) size kept.room longer capacity;
     }
   where
@@ -120,11 +138,11 @@ countable a kept = record {
 }
 
 -- more room
-pub kept_grown : (a : Inside) (after : Vec Entry Global) (states : Vec JobState Global) (added : Vec (Arc Segment Global) Global) (packets : Vec (Arc Packet Global) Global) (begun : Vec ℕ Global) → IsKept a
+pub kept_grown : (a : Inside) (after : Vec Entry Global) (states : Vec JobState Global) (added : Vec (Arc Segment Global) Global) (packets : Vec (Arc Packet Global) Global) (begun : Vec ℕ Global) (waiting : List (Option Rank)) → IsKept a
     → after.items ≡ a.journal.items → vec_capacity a.journal ≤ vec_capacity after
-    → states.items ≡ a.index.jobs.items → added.items ≡ a.index.segments.items → packets.items ≡ a.index.packets.items → begun.items ≡ a.index.attempts.items
-    → IsKept (record a { journal = after; index = record a.index { jobs = states; segments = added; packets = packets; attempts = begun } })
-kept_grown a after states added packets begun kept same grown same_states same_added same_packets same_begun =
+    → states.items ≡ a.index.jobs.items → added.items ≡ a.index.segments.items → packets.items ≡ a.index.packets.items → begun.items ≡ a.index.attempts.items → waiting ≡ a.index.waiting
+    → IsKept (record a { journal = after; index = record a.index { jobs = states; segments = added; packets = packets; attempts = begun; waiting = waiting } })
+kept_grown a after states added packets begun waiting kept same grown same_states same_added same_packets same_begun same_waiting =
     let size : length after.items ≡ length a.journal.items = ap length same in
     let count : length states.items ≡ length a.index.jobs.items = ap length same_states in
     record {
@@ -133,8 +151,9 @@ kept_grown a after states added packets begun kept same grown same_states same_a
       legal = subst (IsLegal a.rules) (sym same) kept.legal;
       few = subst AreFew (sym same) kept.few;
       orderly = subst IsOrderly (sym same) kept.orderly;
-      index = subst (λ all. IsIndexOf a.rules all (record a.index { jobs = states; segments = added; packets = packets; attempts = begun })) (sym same)
-          (index_grown a.rules a.journal.items a.index states added packets begun same_states same_added same_packets same_begun kept.index);
+      index = subst (λ all. IsIndexOf a.rules all (record a.index { jobs = states; segments = added; packets = packets; attempts = begun; waiting = waiting })) (sym same)
+          (index_grown a.rules a.journal.items a.index states added packets begun waiting same_states same_added same_packets same_begun kept.index);
+      waiting = same_waiting ∙ kept.waiting ∙ ap (ranks_from a.rules.attempts 1) (sym same_states);
       room = room_grown (length a.index.jobs.items) (length states.items) a.index.settled a.index.open_now _ _ _ _ (is_some a.index.closed) count kept.room size grown;
     }
   where
@@ -163,19 +182,21 @@ kept_shared a after packets caller packet copy kept worker shareable few more sp
       orderly = subst IsOrderly (sym more) (orderly_on a.journal.items entry kept.orderly refl (λ n is. absurd (cc)));
       index = subst (λ all. IsIndexOf a.rules all (record a.index { packets = packets })) (sym more)
           (index_shared a.rules a.journal.items a.index caller packet copy packets (base_of a kept) kept.index more_packets same);
+      waiting = kept.waiting;
       room = let size = a.journal.ok.0 in room_shared (room a.index) _ _ _ _ spare size longer;
     }
   where
     room_shared : (owed len size size' most : ℕ) → len + (owed + 1) ≤ most → len ≡ size → size' ≡ size + 1 → size' + owed ≤ most
     room_shared owed len size size' most spare same longer = omega arith
 
-pub kept_added : (a : Inside) (after : Vec Entry Global) (states : Vec JobState Global) (added : Vec (Arc Segment Global) Global) (caller : ℕ) (segment copy : Arc Segment Global) (clauses occurrences : ℕ)
+pub kept_added : (a : Inside) (after : Vec Entry Global) (states : Vec JobState Global) (added : Vec (Arc Segment Global) Global) (waiting : List (Option Rank)) (caller : ℕ) (segment copy : Arc Segment Global) (clauses occurrences : ℕ)
     → IsKept a → IsClient a.rules caller → HasRoomFor (state_of a) (arc_value segment)
     → after.items ≡ a.journal.items ++ entry_by caller (event.Added segment) ∷ [] → vec_len a.journal + (room a.index + 2) ≤ vec_capacity after
     → states.items ≡ a.index.jobs.items ++ new_job ∷ [] → added.items ≡ a.index.segments.items ++ copy ∷ [] → arc_value copy ≡ arc_value segment
     → clauses ≡ length (arc_value segment).clauses → occurrences ≡ segment_literals (arc_value segment)
-    → IsKept (record a { journal = after; index = record a.index { jobs = states; segments = added; clauses = a.index.clauses + clauses; literals = a.index.literals + occurrences } })
-kept_added a after states added caller segment copy clauses occurrences kept client fits more spare more_states more_added same same_clauses same_literals =
+    → waiting ≡ a.index.waiting ++ rank_of a.rules.attempts (length a.index.jobs.items + 1) new_job ∷ []
+    → IsKept (record a { journal = after; index = record a.index { jobs = states; segments = added; waiting = waiting; clauses = a.index.clauses + clauses; literals = a.index.literals + occurrences } })
+kept_added a after states added waiting caller segment copy clauses occurrences kept client fits more spare more_states more_added same same_clauses same_literals ranked =
     let entry : Entry = entry_by caller (event.Added segment) in
     let longer : length after.items ≡ length a.journal.items + 1 = ap length more ∙ length_push a.journal.items entry in
     let count : length states.items ≡ length a.index.jobs.items + 1 = ap length more_states ∙ length_push a.index.jobs.items new_job in
@@ -195,8 +216,11 @@ kept_added a after states added caller segment copy clauses occurrences kept cli
         attempts = subst (λ n. n ≤ 4294967295) (ap length (sym (same_attempts a.journal.items entry refl))) kept.few.attempts;
       });
       orderly = subst IsOrderly (sym more) (orderly_on a.journal.items entry kept.orderly refl (λ n is. absurd (cc)));
-      index = subst (λ all. IsIndexOf a.rules all (record a.index { jobs = states; segments = added; clauses = a.index.clauses + clauses; literals = a.index.literals + occurrences })) (sym more)
-          (index_added a.rules a.journal.items a.index caller segment copy states added clauses occurrences (base_of a kept) kept.index more_states more_added same same_clauses same_literals);
+      index = subst (λ all. IsIndexOf a.rules all (record a.index { jobs = states; segments = added; waiting = waiting; clauses = a.index.clauses + clauses; literals = a.index.literals + occurrences })) (sym more)
+          (index_added a.rules a.journal.items a.index caller segment copy states added waiting clauses occurrences (base_of a kept) kept.index more_states more_added same same_clauses same_literals);
+      waiting = ranked ∙ ap (λ all. all ++ rank_of a.rules.attempts (length a.index.jobs.items + 1) new_job ∷ []) kept.waiting
+          ∙ ap (λ n. ranks_from a.rules.attempts 1 a.index.jobs.items ++ rank_of a.rules.attempts n new_job ∷ []) (let e : length a.index.jobs.items + 1 ≡ 1 + length a.index.jobs.items = omega arith in e)
+          ∙ sym (ranks_push a.rules.attempts 1 a.index.jobs.items new_job) ∙ ap (ranks_from a.rules.attempts 1) (sym more_states);
       room = let size = a.journal.ok.0 in
           room_added (length a.index.jobs.items) (length states.items) a.index.settled a.index.open_now _ _ _ _ (is_some a.index.closed) counts.settled count spare size longer;
     }

@@ -135,10 +135,10 @@ starved_case : (is over : Bool) → over ≡ false → first_case None false ove
 starved_case true over few = ap (λ b. first_case None false b true None) few
 starved_case false over few = ap (λ b. first_case None false b false None) few
 
-still_few : (rules : Rules) (journal : List Entry) (job : ℕ) → IsFree rules journal job → nat_le rules.attempts (spent_attempts journal job + 0) ≡ false
+pub still_few : (rules : Rules) (journal : List Entry) (job : ℕ) → IsFree rules journal job → nat_le rules.attempts (spent_attempts journal job + 0) ≡ false
 still_few rules journal job free = let same : spent_attempts journal job + 0 ≡ spent_attempts journal job = omega arith in ap (nat_le rules.attempts) same ∙ free.unspent
 
-nothing : (rules : Rules) (journal : List Entry) (job : ℕ) → IsFree rules journal job → given_if (nat_le rules.attempts (spent_attempts journal job + 0)) verdict.Spent ≡ None
+pub nothing : (rules : Rules) (journal : List Entry) (job : ℕ) → IsFree rules journal job → given_if (nat_le rules.attempts (spent_attempts journal job + 0)) verdict.Spent ≡ None
 nothing rules journal job free = ap (λ b. given_if b verdict.Spent) (still_few rules journal job free)
 
 one_counted : {X : Type 0} (p : X → Bool) (x : X) → count_by p (x ∷ []) ≡ cond (p x) 1 0

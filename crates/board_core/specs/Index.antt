@@ -1,5 +1,5 @@
 -- The index of a board: readings of the journal.
-use Rattle.std.specs.Prelude.{◌≡◌, ℕ, suc, ◌+◌, ◌-◌, ◌≤◌, Option, None, Some, IsSome, is_some, List, [], ◌∷◌, map, length, filter_map, count_by, All, slice_get, option_and_then, if◌then◌else◌}
+use Rattle.std.specs.Prelude.{◌||◌, nat_le, ◌≡◌, ℕ, suc, ◌+◌, ◌-◌, ◌≤◌, Option, None, Some, IsSome, is_some, List, [], ◌∷◌, map, length, filter_map, count_by, All, slice_get, option_and_then, if◌then◌else◌}
 use Rattle.std.specs.Arc.{arc_value}
 use Rattle.trace_core.specs.Known.{item_at}
 use Rattle.entry_core.specs.declared.answers.Verdict.{Verdict}
@@ -15,6 +15,7 @@ use Rattle.board_core.specs.declared.index.Ending.{Ending}
 use Rattle.board_core.specs.declared.index.Ending.TheVariants as ending
 use Rattle.board_core.specs.declared.index.JobState.{JobState}
 use Rattle.board_core.specs.declared.index.Index.{Index}
+use Rattle.tournament.specs.declared.rank.Rank.{Rank}
 
 -- the answer of a `Decided` entry
 abbrev pub answered_by : Event → Option Verdict
@@ -84,3 +85,13 @@ pub record IsCountable (index : Index) : Type 0 where
   pub settled : index.settled ≤ length index.jobs.items
   pub jobs : length index.jobs.items ≤ 1048576
   pub open_now : index.open_now ≤ 4294967295
+
+-- where a job stands among those that wait: it isn't settled, and its open and spent attempts are fewer than it may have
+abbrev pub rank_of : ℕ → ℕ → JobState → Option Rank
+rank_of most job state =
+    if is_some state.ending || nat_le most (state.open_now + state.spent) then None else Some (record { open_now = state.open_now; job = job })
+
+-- the ranks of the jobs, the first of which has this number
+abbrev pub ranks_from : ℕ → ℕ → List JobState → List (Option Rank)
+ranks_from most job [] = []
+ranks_from most job (state ∷ rest) = rank_of most job state ∷ ranks_from most (suc job) rest

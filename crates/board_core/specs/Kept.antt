@@ -6,7 +6,7 @@ use Rattle.entry_core.specs.Attempts.{attempts}
 use Rattle.entry_core.specs.Legal.{AreWithinLimits, IsLegal}
 use Rattle.board_core.specs.declared.board.Board.TheInside.{Inside}
 use Rattle.board_core.specs.State.{State}
-use Rattle.board_core.specs.Index.{IsIndexOf, IsOrderly, room}
+use Rattle.board_core.specs.Index.{IsIndexOf, IsOrderly, ranks_from, room}
 
 abbrev pub state_of : Inside → State
 state_of a = record { rules = a.rules; journal = a.journal.items }
@@ -26,4 +26,5 @@ pub record IsKept (a : Inside) : Type 0 where
   pub few : AreFew a.journal.items
   pub orderly : IsOrderly a.journal.items
   pub index : IsIndexOf a.rules a.journal.items a.index
+  pub waiting : a.index.waiting ≡ ranks_from a.rules.attempts 1 a.index.jobs.items
   pub room : length a.journal.items + room a.index ≤ vec_capacity a.journal

@@ -9,6 +9,7 @@ use crate::index::Index;
 use entry_core::{Entry, Rules};
 use std::alloc::{AllocError, Global};
 use std::marker::Model;
+use tournament::Tournament;
 
 /// Jobs, shared packets and verdicts. Contracts see a board as its rules and its journal, which is legal; jobs,
 /// attempts, packets and places in the journal are counted from 1.
@@ -48,6 +49,7 @@ impl Board {
                 segments: Vec::new(alloc),
                 packets: Vec::new(alloc),
                 attempts: Vec::new(alloc),
+                waiting: Tournament::new(alloc),
                 closed: None,
                 clauses: 0,
                 literals: 0,

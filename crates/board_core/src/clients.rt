@@ -10,7 +10,7 @@ ghost use Rattle.board_core.specs.Replies.{IsUnsettled, HasRoomFor, IsAddFault, 
 
 use crate::board::Board;
 use crate::faults::{AddFault, CancelFault, LookFault};
-use crate::index::{Ending, JobState, put, state};
+use crate::index::{Ending, JobState, put, rank_of, state};
 use entry_core::{Entry, Event, Segment};
 use std::sync::Arc;
 
@@ -45,6 +45,10 @@ impl Board {
         self.index.jobs.reserve(1)?;
         self.index.segments.reserve(1)?;
         self.journal.reserve(room + 2)?;
+        let job = before as u32 + 1;
+        self.index
+            .waiting
+            .push(rank_of(self.rules.attempts, job, JobState::NEW))?;
         self.journal.push_reserved(Entry {
             caller,
             event: Event::Added(segment),
@@ -53,7 +57,7 @@ impl Board {
         self.index.segments.push_reserved(copy);
         self.index.clauses += clauses;
         self.index.literals += literals;
-        Ok(before as u32 + 1)
+        Ok(job)
     }
 
     /// Says that no more jobs come, unless that was said before: then it answers the place of that entry.
@@ -92,13 +96,16 @@ impl Board {
                     event: Event::Cancelled { job },
                 });
                 let before = state(&self.index.jobs, job);
+                let after = JobState {
+                    ending: Some(Ending::Cancelled),
+                    ..before
+                };
                 put(
                     &mut self.index.jobs,
+                    &mut self.index.waiting,
+                    self.rules.attempts,
                     job,
-                    JobState {
-                        ending: Some(Ending::Cancelled),
-                        ..before
-                    },
+                    after,
                 );
                 self.index.settled += 1;
                 Ok(())

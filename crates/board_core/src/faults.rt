@@ -88,3 +88,7 @@ impl From<AllocError> for AskFault {
         AskFault::Memory
     }
 }
+
+/// An attempt came too late: its job is settled already, with this outcome.
+#[derive(Clone, Copy, Debug, PartialEq, Eq)]
+pub struct Late(pub Outcome);

@@ -2,10 +2,11 @@
 
 ghost use Rattle.std.specs.Prelude.{◌≡◌, ◌-◌, ◌≤◌, length, slice_set};
 ghost use Rattle.trace_core.specs.Known.{item_at};
-ghost use Rattle.board_core.specs.Index.{state_at, room, IsCountable};
+ghost use Rattle.board_core.specs.Index.{state_at, rank_of, room, IsCountable};
 
 use entry_core::Segment;
 use std::sync::Arc;
+use tournament::{Rank, Tournament};
 use trace_core::Packet;
 
 /// How a job was settled. An answer is named by the place of its entry in the journal, counted from 0.
@@ -42,6 +43,8 @@ pub(crate) struct Index {
     pub(crate) packets: Vec<Arc<Packet>>,
     /// The job of each attempt.
     pub(crate) attempts: Vec<u32>,
+    /// The ranks of the jobs that wait.
+    pub(crate) waiting: Tournament,
     /// The place of the entry `Closed`, counted from 1.
     pub(crate) closed: Option<u64>,
     /// How many clauses and how many occurrences of literals were added.
@@ -82,11 +85,35 @@ pub(crate) fn state(jobs: &[JobState], job: u32) -> JobState
     jobs[job as usize - 1]
 }
 
-/// Writes where a job stands.
-pub(crate) fn put(jobs: &mut Vec<JobState>, job: u32, state: JobState)
+/// Where a job stands among those that wait, if it waits, where a job may have at most so many attempts.
+pub(crate) fn rank_of(most: u32, job: u32, state: JobState) -> Option<Rank>
+    ensures { result ≡ rank_of most job state }
+{
+    let begun = state.open_now as u64 + state.spent as u64;
+    if state.ending.is_some() || begun >= most as u64 {
+        return None;
+    }
+    Some(Rank {
+        open_now: state.open_now,
+        job,
+    })
+}
+
+/// Writes where a job stands, and its rank.
+pub(crate) fn put(
+    jobs: &mut Vec<JobState>,
+    waiting: &mut Tournament,
+    most: u32,
+    job: u32,
+    state: JobState,
+)
     requires from_one { 1 ≤ job }
     requires there { job ≤ length jobs.old.items }
-    ensures { jobs.new.items ≡ slice_set jobs.old.items (job - 1) state }
+    requires entered { length waiting.old ≡ length jobs.old.items }
+    ensures jobs { jobs.new.items ≡ slice_set jobs.old.items (job - 1) state }
+    ensures waiting { waiting.new ≡ slice_set waiting.old (job - 1) (rank_of most job state) }
 {
-    jobs[job as usize - 1] = state;
+    let place = job as usize - 1;
+    jobs[place] = state;
+    waiting.set(place, rank_of(most, job, state));
 }

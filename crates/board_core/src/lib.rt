@@ -9,10 +9,13 @@
 mod answers;
 mod board;
 mod clients;
+mod ends;
 mod faults;
 mod index;
 mod looks;
+mod task;
 mod workers;
 
 pub use board::Board;
-pub use faults::{AddFault, AskFault, CancelFault, LookFault, ShareFault};
+pub use faults::{AddFault, AskFault, CancelFault, Late, LookFault, ShareFault};
+pub use task::Task;

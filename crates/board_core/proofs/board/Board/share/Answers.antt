@@ -13,8 +13,8 @@ room-room-requires c = countable c.self.inside c.self.invariant
 
 pub invariant_of-self-in_err-reserve-2 : goal.invariant_of-self-in_err-reserve-2
 invariant_of-self-in_err-reserve-2 c =
-    kept_grown c.self.inside c.reserve-2.new.self c.self.inside.index.jobs c.self.inside.index.segments c.reserve.new.self c.self.inside.index.attempts c.self.invariant
-    c.reserve-2.ensures.items c.reserve-2.ensures.capacity refl refl c.reserve.ensures.items refl
+    kept_grown c.self.inside c.reserve-2.new.self c.self.inside.index.jobs c.self.inside.index.segments c.reserve.new.self c.self.inside.index.attempts c.self.inside.index.waiting c.self.invariant
+    c.reserve-2.ensures.items c.reserve-2.ensures.capacity refl refl c.reserve.ensures.items refl refl
 
 pub invariant_of-self-2 : goal.invariant_of-self-2
 invariant_of-self-2 c =
