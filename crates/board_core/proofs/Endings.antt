@@ -171,7 +171,7 @@ settling a caller happened number begun how given kept end spends running unsett
       ap (λ n. n + 1) kept.index.settled ∙ sym (tally_after a.rules journal entry begun.job (Some how) end.adds work.job_from work.job_to unsettled ends_so others),
     )
 
-get_last : {X : Type 0} (xs : List X) (x : X) → slice_get (xs ++ x ∷ []) (length xs) ≡ Some x
+pub get_last : {X : Type 0} (xs : List X) (x : X) → slice_get (xs ++ x ∷ []) (length xs) ≡ Some x
 get_last [] x = refl
 get_last (y ∷ ys) x = get_last ys x
 

@@ -125,7 +125,7 @@ open_ended test journal entry number begun none ends numbered found is =
     ∙ ap (λ all. open_where test (attempts journal) all + cond (test begun.job) 1 0) one_more
     ∙ one_ends test opened remains (attempts journal) 1 (number - 1) begun numbered at.1 was gone others
 
-none_equal : (number : ℕ) (numbers : List ℕ) → All (λ n. n < number) numbers → list_any (λ n. n == number) numbers ≡ false
+pub none_equal : (number : ℕ) (numbers : List ℕ) → All (λ n. n < number) numbers → list_any (λ n. n == number) numbers ≡ false
 none_equal number numbers all = list_any_none (λ n. n == number) numbers (λ k d lt. let le = all k d lt in grind (arith, nat_tests))
 
 -- an entry that begins the next attempt

@@ -129,6 +129,7 @@ pub record IsBegun (old new : State) (caller job number : ℕ) : Type 0 where
   pub next : IsNext old.rules old.journal job
   pub numbered : number ≡ length (attempts old.journal) + 1
   pub adds : new ≡ entered old caller (event.Began job number)
+  pub own : IsOwn new caller number
 
 -- what is said where no job is to take
 abbrev pub IsRest : State → Task → Type 0

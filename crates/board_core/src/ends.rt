@@ -65,10 +65,10 @@ impl Board {
     {
         let job = self.index.attempts[attempt as usize - 1];
         let before = state(&self.index.jobs, job);
+        let place = self.journal.len();
         if let Some(how) = before.ending {
             return Err(Late(outcome_in(&self.journal, how)));
         }
-        let place = self.journal.len();
         self.journal.push_reserved(Entry {
             caller,
             event: Event::Decided { attempt, answer },

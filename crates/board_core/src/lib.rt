@@ -14,6 +14,8 @@ mod faults;
 mod index;
 mod looks;
 mod task;
+#[cfg(test)]
+mod tests;
 mod workers;
 
 pub use board::Board;

@@ -9,7 +9,7 @@ use Rattle.board_core.specs.Index.{state_at, rank_of, room}
 use Rattle.board_core.proofs.Verdicts.{entry_by}
 use Rattle.board_core.proofs.Keeping.{all_entered, countable, kept_grown}
 use Rattle.board_core.proofs.Attempted.{attempts_number, kept_begun}
-use Rattle.board_core.proofs.Takes.{first_taken, none_taken, entered_is}
+use Rattle.board_core.proofs.Takes.{first_taken, none_taken, entered_is, begun_is_own}
 use Rattle.board_core.proofs.board.Board.take.Goals as goal
 
 pub rest-requires : goal.rest-requires
@@ -63,9 +63,12 @@ invariant_of-self-2 c =
 pub returns-clause-task : goal.returns-clause-task
 returns-clause-task c =
     let next = first_taken c.self.inside c.in-Some.rank c.first.result c.self.invariant c.first.ensures c.in-Some.is in
+    let numbered = ap (λ n. n + 1) (c.len-begun.ensures ∙ attempts_number c.self.inside c.self.invariant) ∙ ap (λ (board : State). length (attempts board.journal) + 1) c.self.view_is in
+    let adds = entered_is c.self.inside c.args.self.now c.args.caller (event.Began c.in-Some.rank.job (c.len-begun.result + 1)) c.push_reserved.new.self.items c.self.view_is
+    (c.push_reserved.ensures.items ∙ ap (λ xs. xs ++ entry_by c.args.caller (event.Began c.in-Some.rank.job (c.len-begun.result + 1)) ∷ []) c.reserve-2.ensures.items) in
     record {
       next = subst (λ (board : State). IsNext board.rules board.journal c.in-Some.rank.job) c.self.view_is next;
-      numbered = ap (λ n. n + 1) (c.len-begun.ensures ∙ attempts_number c.self.inside c.self.invariant) ∙ ap (λ (board : State). length (attempts board.journal) + 1) c.self.view_is;
-      adds = entered_is c.self.inside c.args.self.now c.args.caller (event.Began c.in-Some.rank.job (c.len-begun.result + 1)) c.push_reserved.new.self.items c.self.view_is
-          (c.push_reserved.ensures.items ∙ ap (λ xs. xs ++ entry_by c.args.caller (event.Began c.in-Some.rank.job (c.len-begun.result + 1)) ∷ []) c.reserve-2.ensures.items);
+      numbered = numbered;
+      adds = adds;
+      own = begun_is_own c.self.inside c.args.self.now _ c.args.caller c.in-Some.rank.job (c.len-begun.result + 1) c.self.invariant c.self.view_is numbered adds;
     }
