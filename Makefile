@@ -2,7 +2,7 @@
 
 FILE ?= examples/counter.icnf
 
-.PHONY: run test bench-reader bench-checker bench-trace bench-board bench-lock
+.PHONY: run test bench-reader bench-checker bench-trace bench-learning bench-board bench-lock
 
 # Proves what is not proved yet, builds the program, and solves FILE.
 run:
@@ -28,6 +28,10 @@ bench-trace:
 # A million jobs, each added, taken and ended.
 bench-board:
 	cd crates/board_bench && rt run -- 1000000
+
+# A million clauses learnt from one conflict behind a trail of a million literals.
+bench-learning:
+	cd crates/analyze_bench && rt run -- 1000000 1000000
 
 # A hundred thousand holds of the lock beside std's Mutex, by 1, 2 and 4 threads.
 bench-lock:
