@@ -30,7 +30,7 @@ hints_back hints each = all_back number_of hint_text decimal IsNumber (λ hint i
 -- ---- a line
 
 -- the line without its line feed
-pub body : Line → List ℕ
+unfoldable pub body : Line → List ℕ
 body line = 116 ∷ 32 ∷ (decimal line.id ++ 32 ∷ (flat_map lit_text line.lits ++ 48 ∷ 32 ∷ (flat_map hint_text line.hints ++ 48 ∷ [])))
 
 abbrev pub IsWellFormed : Line → Type 0
@@ -51,11 +51,11 @@ line_back line formed =
 
 -- ---- the text
 
-all_flat : (f : ℕ → List ℕ) (P : ℕ → Type 0) (Q : ℕ → Type 0) → ((x : ℕ) → Q x → All P (f x)) → (xs : List ℕ) → All Q xs → All P (flat_map f xs)
+pub all_flat : (f : ℕ → List ℕ) (P : ℕ → Type 0) (Q : ℕ → Type 0) → ((x : ℕ) → Q x → All P (f x)) → (xs : List ℕ) → All Q xs → All P (flat_map f xs)
 all_flat f P Q each [] all = All-nil P
 all_flat f P Q each (x ∷ xs) all = All-append P (f x) (flat_map f xs) (each x (All-head Q x xs all)) (all_flat f P Q each xs (All-tail Q x xs all))
 
-clean_lit : (lit : ℕ) → IsLit lit → All (λ b. (b == 10) ≡ false) (lit_text lit)
+pub clean_lit : (lit : ℕ) → IsLit lit → All (λ b. (b == 10) ≡ false) (lit_text lit)
 clean_lit lit is = subst (All (λ b. (b == 10) ≡ false)) (sym (lit_text-token lit)) (All-append (λ b. (b == 10) ≡ false) (lit_token lit) (32 ∷ []) (lit_apart lit 10 is (omega arith)) (All-cons (λ b. (b == 10) ≡ false) 32 [] refl (All-nil (λ b. (b == 10) ≡ false))))
 
 clean_hint : (hint : ℕ) → IsNumber hint → All (λ b. (b == 10) ≡ false) (hint_text hint)
@@ -73,7 +73,7 @@ clean_body line formed =
     (All-cons (λ b. (b == 10) ≡ false) 48 [] refl (All-nil (λ b. (b == 10) ≡ false))))))))))
 
 -- the first line of a text, and the lines behind it
-first_line : (line : Line) (rest : List ℕ) → IsWellFormed line → slice_split (λ b. b == 10) (line_text line ++ rest) ≡ body line ∷ slice_split (λ b. b == 10) rest
+pub first_line : (line : Line) (rest : List ℕ) → IsWellFormed line → slice_split (λ b. b == 10) (line_text line ++ rest) ≡ body line ∷ slice_split (λ b. b == 10) rest
 first_line line rest formed =
     ap (λ text. slice_split (λ b. b == 10) (text ++ rest)) (line_text-body line) ∙ ap (slice_split (λ b. b == 10)) (append_assoc (body line) (10 ∷ []) rest)
     ∙ slice_split_at (λ b. b == 10) (body line) 10 rest (clean_body line formed) refl
@@ -113,7 +113,7 @@ in_order inputs before id (hint ∷ hints) is all =
     and_from (nat_lt (number_of_hint inputs hint) id) (list_all (λ h. nat_lt h id) (map (number_of_hint inputs) hints)) yes (in_order inputs before id hints is (All-tail (IsHintBelow inputs before) hint hints all))
 
 -- the line of a step says it
-said_back : (tags : List ℕ) (before : List Step) (step : Step) → All (IsHintBelow (length tags) (length before)) step.hints → IsLitSet step.clause → step.tag ≡ tag_of_hints (tags_with tags before) (map (number_of_hint (length tags)) step.hints) → length tags + (length before + 1) < 2 ^ 64
+pub said_back : (tags : List ℕ) (before : List Step) (step : Step) → All (IsHintBelow (length tags) (length before)) step.hints → IsLitSet step.clause → step.tag ≡ tag_of_hints (tags_with tags before) (map (number_of_hint (length tags)) step.hints) → length tags + (length before + 1) < 2 ^ 64
     → (step_said (length tags) (length before + 1) (tags_with tags before) (line_of (body (line_of_step (length tags) (length before) step))) ≡ Ok step) × IsWellFormed (line_of_step (length tags) (length before) step)
 said_back tags before step hints set tag fits = (ap (step_said (length tags) (length before + 1) (tags_with tags before)) (line_back line formed) ∙ chosen, formed)
   where
