@@ -1,0 +1,5 @@
+pub mod ProofLemmas
+pub mod CaseLemmas
+pub mod EndLines
+pub mod Within
+pub mod JudgeLemmas

@@ -1,0 +1,4 @@
+pub mod Proof
+pub mod Case
+pub mod Problem
+pub mod Audit
