@@ -3,3 +3,4 @@ pub mod CaseLemmas
 pub mod EndLines
 pub mod Within
 pub mod JudgeLemmas
+pub mod Accepted

@@ -2,3 +2,4 @@ pub mod Proof
 pub mod Case
 pub mod Problem
 pub mod Audit
+pub mod Law

@@ -8,6 +8,7 @@
 mod auditing;
 mod findings;
 mod judging;
+mod laws;
 mod places;
 mod problem;
 mod taking;
@@ -16,3 +17,4 @@ mod tests;
 
 pub use auditing::audit;
 pub use findings::{Finding, Flaw};
+pub use laws::accepted_is_right;
