@@ -11,4 +11,5 @@ pub mod StatementStates
 pub mod HeaderStates
 pub mod Truth
 pub mod Runs
+pub mod Fronts
 pub mod ReadBack
