@@ -1,10 +1,9 @@
 -- A text that goes on, or ends: statements come behind those that stand, and a wrong place stays.
 use Rattle.std.proofs.Common.{◌≡◌, ◌∙◌, ℕ, ◌+◌, ◌≤◌, List, [], ◌∷◌, ◌++◌, length, Bool, true, false, cond, refl, ap, sym, arith, inl, inr}
-use Rattle.std.specs.Prelude.{◌⊎◌, ◌==◌, nat_le, Option, Some, None}
+use Rattle.std.specs.Prelude.{◌==◌, nat_le, Option, Some, None}
 use Rattle.std.proofs.lemmas.List.{length-append}
 use Rattle.icnf_text.specs.declared.statements.Numbered.{Numbered}
 use Rattle.icnf_text.specs.declared.faults.Reason.{Reason}
-use Rattle.icnf_text.specs.declared.faults.Reason.TheVariants as reason
 use Rattle.icnf_text.specs.declared.faults.Fault.{Fault}
 use Rattle.icnf_text.specs.declared.words.Word.{Word}
 use Rattle.icnf_text.specs.declared.words.Word.TheVariants as word
@@ -16,7 +15,7 @@ use Rattle.icnf_text.specs.declared.places.Place.{Place}
 use Rattle.icnf_text.specs.declared.places.Place.TheVariants as place
 use Rattle.icnf_text.specs.Layout.{is_blank}
 use Rattle.icnf_text.specs.Judgement.{statements, wrong}
-use Rattle.icnf_text.specs.Machine.{State, Step, Parse, Taken, quiet, start, goes_on, stops, mark_at, begun, pushed_unless, literal_taken, lit_code, closed_unless, zero_taken, token_taken, is_p, is_inccnf, word_at, word_ended_at, word_ended, put_at, with_byte, read_unless, read_byte, and_then, read_bytes, finished, HasRead}
+use Rattle.icnf_text.specs.Machine.{State, Step, Parse, Taken, quiet, start, mark_at, begun, pushed_unless, literal_taken, lit_code, closed_unless, token_taken, is_p, is_inccnf, word_at, word_ended_at, with_byte, read_unless, read_byte, and_then, read_bytes, finished, HasRead}
 use Rattle.icnf_text.proofs.Truth.{run, tells, ends, is_at, settled_end, IsAt}
 use Rattle.icnf_text.proofs.Runs.{feed_given, feed_fault, feed_after_fault}
 

@@ -1,12 +1,12 @@
 -- From the pieces of a text to the whole output.
-use Rattle.std.proofs.Common.{◌≡◌, ◌∙◌, ℕ, ◌+◌, ◌≤◌, List, [], ◌∷◌, ◌++◌, length, take, Option, Bool, true, false, refl, ap, sym, subst, arith, append-nil}
+use Rattle.std.proofs.Common.{◌≡◌, ◌∙◌, ℕ, ◌+◌, List, [], ◌++◌, length, take, Option, Bool, true, false, refl, ap, sym, subst, arith, append-nil}
 use Rattle.std.specs.Prelude.{◌⊎◌, None, Some, Result, Ok, Err, IfOk, OnErr, MatchOption}
 use Rattle.std.proofs.Common.{inl, inr}
 use Rattle.std.proofs.lemmas.List.{take-append-le}
 use Rattle.std.proofs.Math.Seq.{take-length, take-append-add, take-append_seam}
-use Rattle.run_io.specs.Bytes.{appended, followed_by}
+use Rattle.run_io.specs.Bytes.{appended}
 use Rattle.run_io.specs.declared.outside.Failed.{Failed}
-use Rattle.run_io.proofs.Laws.{appended_nothing, appended_twice}
+use Rattle.run_io.proofs.Laws.{appended_twice}
 use Rattle.icnf_text.specs.declared.faults.Fault.{Fault}
 use Rattle.icnf_text.specs.declared.statements.Numbered.{Numbered}
 use Rattle.icnf_text.specs.Judgement.{statements, wrong}

@@ -1,5 +1,5 @@
 -- A run over an accepted text answers every job, where nothing fails and memory is there.
-use Rattle.std.proofs.Common.{◌≡◌, ◌∙◌, ℕ, List, [], ◌++◌, length, Option, Bool, true, false, nat_lt, refl, ap, sym, subst, arith, append-nil, inl, inr}
+use Rattle.std.proofs.Common.{◌≡◌, ◌∙◌, ℕ, List, ◌++◌, length, Option, Bool, true, false, refl, ap, sym, subst, append-nil, inl, inr}
 use Rattle.std.specs.Prelude.{◌⊎◌, Some, None}
 use Rattle.run_io.specs.Bytes.{appended, followed_by, IsEmptyWhereTold}
 use Rattle.icnf_text.specs.declared.faults.Fault.{Fault}
@@ -7,7 +7,7 @@ use Rattle.icnf_text.specs.Judgement.{wrong}
 use Rattle.icnf_text.proofs.Fronts.{wrong_stays, wrong_stays_at_end}
 use Rattle.tarmo_run.specs.declared.endings.Ending.{Ending}
 use Rattle.tarmo_run.specs.declared.endings.Ending.TheVariants.{Complete, Refused, Unread, Exhausted}
-use Rattle.tarmo_run.specs.Output.{AreBlocks, AreShown, IsAnswered, jobs_in, last_line_of, status_of}
+use Rattle.tarmo_run.specs.Output.{AreShown, IsAnswered, jobs_in, last_line_of, status_of}
 use Rattle.tarmo_run.specs.Written.{Finished}
 
 no_fault : (found : Option Fault) (fault : Fault) → found ≡ None → found ≡ Some fault → ⊥

@@ -12,7 +12,7 @@ use Rattle.tarmo_run.specs.declared.queries.Halt.{Halt}
 use Rattle.tarmo_run.specs.declared.queries.Halt.TheVariants.{Unwritten, Memory}
 use Rattle.tarmo_run.specs.Block.{IsBlock}
 use Rattle.tarmo_run.specs.Output.{AreBlocks, unnumbered}
-use Rattle.tarmo_run.specs.Written.{Answered, TookBlocks, TookSome, TookFront, WroteUntil, of_cube}
+use Rattle.tarmo_run.specs.Written.{Answered, TookBlocks, TookFront, WroteUntil, of_cube}
 use Rattle.tarmo_run.proofs.Statements.{more_jobs, more_clauses}
 
 AreBlocks-append : (number : ℕ) (first second : List Job) (text more : List ℕ) → AreBlocks number first text → AreBlocks (number + length first) second more → AreBlocks number (first ++ second) (text ++ more)

@@ -1,5 +1,5 @@
 -- The jobs of statements that come one after another.
-use Rattle.std.proofs.Common.{◌≡◌, ◌∙◌, List, [], ◌∷◌, ◌++◌, ℕ, refl, ap, sym, append_assoc}
+use Rattle.std.proofs.Common.{◌≡◌, ◌∙◌, List, [], ◌∷◌, ◌++◌, ℕ, refl, ap}
 use Rattle.icnf_text.specs.declared.statements.Statement.{Statement}
 use Rattle.icnf_text.specs.declared.statements.Statement.TheVariants.{Clause, Cube}
 use Rattle.icnf_text.specs.declared.statements.Numbered.{Numbered}

@@ -1,10 +1,10 @@
 //! A text that comes in pieces, and is answered as it comes.
 
-ghost use Rattle.std.specs.Prelude.{◌≡◌, ◌<◌, ◌≤◌, ◌+◌, ◌^◌, ◌++◌, ℕ, List, Bool, Option, None, true, false, nat_lt, length, IfOk, OnErr, MatchOption};
+ghost use Rattle.std.specs.Prelude.{◌≡◌, ◌<◌, ◌≤◌, ◌+◌, ◌++◌, ℕ, List, Bool, Option, None, true, false, nat_lt, length, IfOk, OnErr, MatchOption};
 ghost use Rattle.run_io.specs.Bytes.{IsEmptyWhereTold};
 ghost use Rattle.run_io.specs.Fault.{HasCause, last_count};
 ghost use Rattle.icnf_text.specs.Jobs.{jobs_after};
-ghost use Rattle.tarmo_run.specs.Output.{Reading, jobs_in, unnumbered};
+ghost use Rattle.tarmo_run.specs.Output.{jobs_in, unnumbered};
 ghost use Rattle.tarmo_run.specs.Written.{Answered, Broke, IsCaughtUp, Showed, ShowedAll, StoppedBy, TookFront};
 
 use crate::endings::Ending;

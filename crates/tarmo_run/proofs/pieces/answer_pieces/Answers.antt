@@ -1,4 +1,4 @@
-use Rattle.std.proofs.Common.{◌≡◌, ◌∙◌, ℕ, ◌<◌, ◌≤◌, length, false, true, subst, sym, rules}
+use Rattle.std.proofs.Common.{◌∙◌, ℕ, ◌<◌, ◌≤◌, length, subst, sym, rules}
 use Rattle.tarmo_run.proofs.Reached.{nothing_reached, few_reached, unfailing, goes_on, ends_here, rest_showed, piece_broke, piece_ended, piece_reached, nearer}
 use Rattle.tarmo_run.proofs.Results.{OnErr-always}
 use Rattle.tarmo_run.proofs.pieces.answer_pieces.Goals as goal

@@ -1,4 +1,4 @@
-use Rattle.std.proofs.Common.{◌∙◌, rules}
+use Rattle.std.proofs.Common.{◌∙◌}
 use Rattle.tarmo_run.proofs.Reached.{failing, showed_unstarted}
 use Rattle.tarmo_run.proofs.pieces.show_blocks.Goals as goal
 
