@@ -1,5 +1,5 @@
 -- A text that goes on, or ends: statements come behind those that stand, and a wrong place stays.
-use Rattle.std.proofs.Common.{◌≡◌, ◌∙◌, ℕ, ◌+◌, ◌≤◌, List, [], ◌∷◌, ◌++◌, length, Bool, true, false, cond, refl, ap, sym, arith, inl, inr}
+use Rattle.std.proofs.Common.{◌≡◌, ◌∙◌, ℕ, ◌+◌, ◌≤◌, List, [], ◌∷◌, ◌++◌, length, Bool, true, false, cond, refl, ap, sym, arith, append-nil, inl, inr}
 use Rattle.std.specs.Prelude.{◌==◌, nat_le, Option, Some, None}
 use Rattle.std.proofs.lemmas.List.{length-append}
 use Rattle.icnf_text.specs.declared.statements.Numbered.{Numbered}
@@ -44,6 +44,18 @@ wrong_stays text more fault is =
     let state : State = (run text).state in
     let next : State = (read_bytes (quiet state) more).state in
     sym (feed_fault state next text more refl (has_read text)) ∙ (feed_after_fault state next text more _ fault refl refl (has_read text) is).1
+
+-- no statement comes behind a wrong place
+pub none_behind_wrong : (text more : List ℕ) (fault : Fault) → wrong text false ≡ Some fault → statements (text ++ more) false ≡ statements text false
+unfolding more_statements
+none_behind_wrong text more fault is =
+    let state : State = (run text).state in
+    longer_statements text more
+    ∙ ap (λ (list : List Numbered). statements text false ++ list) (feed_after_fault state (read_bytes (quiet state) more).state text more (more_statements text more) fault refl refl (has_read text) is).0
+    ∙ append-nil (statements text false)
+
+pub none_at_end_behind_wrong : (text : List ℕ) (fault : Fault) → wrong text false ≡ Some fault → statements text true ≡ statements text false
+none_at_end_behind_wrong text fault is = (settled_end text fault is).1
 
 pub wrong_stays_at_end : (text : List ℕ) (fault : Fault) → wrong text false ≡ Some fault → wrong text true ≡ Some fault
 wrong_stays_at_end text fault is = (settled_end text fault is).0

@@ -4,6 +4,7 @@ use Rattle.std.specs.Fmt.{decimal}
 use Rattle.run_io.specs.Bytes.{followed_by, appended}
 use Rattle.icnf_text.specs.declared.faults.Reason.{Reason}
 use Rattle.icnf_text.specs.declared.faults.Reason.TheVariants as reason
+use Rattle.icnf_text.specs.declared.faults.Fault.{Fault}
 use Rattle.icnf_text.specs.declared.statements.Statement.{Statement}
 use Rattle.icnf_text.specs.declared.statements.Numbered.{Numbered}
 use Rattle.icnf_text.specs.Judgement.{statements, wrong}
@@ -74,8 +75,17 @@ pub record IsRun (left_before left_after : Option (List ℕ)) (ended failed : Bo
   pub output : IsOutput ending (record { bytes = bytes; ended = ended; failed = failed }) text
   pub taken : ((status ≡ status_of ending) × (taken_after ≡ appended taken_before text)) ⊎ ((status ≡ 4) × (count : ℕ) × (taken_after ≡ appended taken_before (take count text)))
 
--- every job of the text has its block, and their number stands on the last line
-pub record IsAnswered (bytes : List ℕ) (taken_before taken_after : Option (List ℕ)) : Type 0 where
+-- how a run over this whole text ends, where nothing fails and memory is there
+abbrev pub ending_by : Option Fault → ℕ → Ending
+ending_by None jobs = Complete jobs
+ending_by (Some fault) jobs = Refused fault
+
+abbrev pub ending_of : List ℕ → Ending
+ending_of text = ending_by (wrong text true) (length (jobs_in text true))
+
+-- Every job of the text has its block, up to the first wrong place, and the text decides the last line and the status.
+pub record IsAnswered (text : List ℕ) (taken_before taken_after : Option (List ℕ)) (status : ℕ) : Type 0 where
   pub blocks : List ℕ
-  pub right : AreBlocks 1 (jobs_in bytes true) blocks
-  pub taken : taken_after ≡ appended taken_before (blocks ++ last_line_of (Complete (length (jobs_in bytes true))))
+  pub right : AreBlocks 1 (jobs_in text true) blocks
+  pub taken : taken_after ≡ appended taken_before (blocks ++ last_line_of (ending_of text))
+  pub told : status ≡ status_of (ending_of text)

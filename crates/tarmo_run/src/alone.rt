@@ -1,9 +1,8 @@
 //! The run on the caller's own thread.
 
-ghost use Rattle.std.specs.Prelude.{◌≡◌, ◌≢◌, ◌<◌, ◌≤◌, ◌⊎◌, ◌↔◌, ℕ, List, Some, None, true, false, nat_lt, length, IfOk, OnErr};
+ghost use Rattle.std.specs.Prelude.{◌≡◌, ◌≢◌, ◌<◌, ◌≤◌, ◌⊎◌, ◌↔◌, ℕ, List, Some, true, false, nat_lt, length, IfOk, OnErr};
 ghost use Rattle.run_io.specs.Bytes.{IsEmptyWhereTold};
 ghost use Rattle.run_io.specs.Fault.{HasCause, last_count};
-ghost use Rattle.icnf_text.specs.Judgement.{wrong};
 ghost use Rattle.tarmo_run.specs.Output.{IsAnswered, IsRun};
 ghost use Rattle.tarmo_run.specs.Written.{Finished, FinishedInPart};
 
@@ -43,9 +42,9 @@ pub fn run_alone<S: Source, O: Sink>(
         (nat_lt (S.faults source.old) (S.faults source.new)) (O.taken out.old) (O.taken out.new) result }
     ensures whole { S.ended source.new ≡ true → IsEmptyWhereTold (S.left source.new) }
 
-    ensures complete { (text : List ℕ) → length words.now ≡ 0 → S.left source.old ≡ Some text → wrong text true ≡ None →
+    ensures complete { (text : List ℕ) → length words.now ≡ 0 → S.left source.old ≡ Some text →
         S.faults source.new ≡ S.faults source.old → O.faults out.new ≡ O.faults out.old →
-        ((result ≡ 0) × IsAnswered text (O.taken out.old) (O.taken out.new)) ⊎ (result ≡ 6) }
+        IsAnswered text (O.taken out.old) (O.taken out.new) result ⊎ (result ≡ 6) }
 
     ensures sink { (result ≡ 4) ↔ (O.faults out.old < O.faults out.new) }
     ensures source { (result ≡ 3) ↔ ((S.faults source.old < S.faults source.new) × (result ≢ 4) × (result ≢ 6)) }
