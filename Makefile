@@ -2,7 +2,7 @@
 
 FILE ?= examples/counter.icnf
 
-.PHONY: run test bench-reader bench-checker bench-trace bench-learning bench-lock
+.PHONY: run test bench-reader bench-checker bench-trace bench-learning bench-board bench-lock
 
 # Proves what is not proved yet, builds the program, and solves FILE.
 run:
@@ -24,6 +24,10 @@ bench-checker:
 # Trimming and printing a derivation of a million steps.
 bench-trace:
 	cd crates/trim_bench && rt run -- 1000000
+
+# A million jobs, each added, taken and ended.
+bench-board:
+	cd crates/board_bench && rt run -- 1000000
 
 # A million clauses learnt from one conflict behind a trail of a million literals.
 bench-learning:

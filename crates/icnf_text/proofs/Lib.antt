@@ -1,7 +1,4 @@
-pub mod EachThen
-pub mod Numbers
 pub mod SortedSets
-pub mod PlainText
 pub mod Tokens
 pub mod Lines
 pub mod TokenKinds
@@ -11,4 +8,5 @@ pub mod StatementStates
 pub mod HeaderStates
 pub mod Truth
 pub mod Runs
+pub mod Fronts
 pub mod ReadBack

@@ -415,7 +415,7 @@ byte_at text step b (inr h) = after_stop text step.state step.given b h
 abbrev pub run : List ℕ → Step
 run text = read_bytes (quiet start) text
 
-is_at : (text : List ℕ) → IsAt text (run text)
+pub is_at : (text : List ℕ) → IsAt text (run text)
 is_at text = subst (λ (t : List ℕ). IsAt t (run t)) (take_all (length text) text (omega arith)) (front (length text) (omega arith))
   where
     read_push : (step : Step) (xs : List ℕ) (b : ℕ) → read_bytes step (xs ++ b ∷ []) ≡ and_then (read_bytes step xs) b
@@ -511,7 +511,7 @@ unfolding finished
 next_end s h = ap (λ (o : Option Fault). finished_unless o s) h
 
 -- a fault stays at the end
-settled_end : (text : List ℕ) (f : Fault) → wrong text false ≡ Some f → (wrong text true ≡ Some f) × (statements text true ≡ statements text false)
+pub settled_end : (text : List ℕ) (f : Fault) → wrong text false ≡ Some f → (wrong text true ≡ Some f) × (statements text true ≡ statements text false)
 settled_end text f h = by (cases_lt 4294967296 (length text))
   where
     short : length text ≤ 4294967296 → (wrong text true ≡ Some f) × (statements text true ≡ statements text false)

@@ -17,3 +17,13 @@ jobs_after clauses (Cube cube ∷ statements) = record { clauses = clauses; cube
 -- one query for each cube, in order; clauses after the last cube belong to none
 abbrev pub jobs_of : List Statement → List Job
 jobs_of statements = jobs_after [] statements
+
+-- the clauses that are known behind statements that follow these clauses
+abbrev pub clauses_after : List (List ℕ) → List Statement → List (List ℕ)
+clauses_after clauses [] = clauses
+clauses_after clauses (Clause clause ∷ statements) = clauses_after (clauses ++ clause ∷ []) statements
+clauses_after clauses (Cube cube ∷ statements) = clauses_after clauses statements
+
+-- all clauses of statements, in order
+abbrev pub clauses_of : List Statement → List (List ℕ)
+clauses_of statements = clauses_after [] statements

@@ -1,4 +1,3 @@
-pub mod Plain
 pub mod Jobs
 pub mod Layout
 pub mod Number

@@ -5,10 +5,8 @@
 #![tactic(auto)]
 
 mod faults;
-mod literals;
 mod parser;
 mod places;
-mod plain;
 mod printing;
 mod reader;
 mod sets;
@@ -16,7 +14,6 @@ mod statements;
 mod words;
 
 pub use faults::{Fault, Reason};
-pub use plain::read_plain;
 pub use printing::print;
 pub use reader::{Fed, Reader};
 pub use statements::{Numbered, Statement, Statements};

@@ -1,11 +1,25 @@
 //! Clauses and cubes of literals in any order.
 
 ghost use Rattle.std.specs.Prelude.{◌≡◌, IfOk};
+ghost use Rattle.sat_base.specs.Lit.{is_ascending};
 ghost use Rattle.icnf_text.specs.Judgement.{set_of};
 
-use crate::literals::is_strictly_ascending;
 use sat_base::{Clause, Cube, Lit};
 use std::alloc::{AllocError, Global};
+
+// Whether each literal is greater than the one before it.
+fn is_strictly_ascending(lits: &[Lit]) -> bool
+    ensures { result ≡ is_ascending lits.now }
+{
+    let mut bound = 0;
+    for lit in lits {
+        if lit.code() <= bound {
+            return false;
+        }
+        bound = lit.code();
+    }
+    true
+}
 
 // Most texts have their literals in ascending order, so that nothing is to be sorted.
 pub(crate) fn clause_of(alloc: Global, lits: &[Lit]) -> Result<Clause, AllocError>

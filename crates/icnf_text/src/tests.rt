@@ -2,6 +2,7 @@ use super::*;
 use sat_base::{Clause, Cube, Lit};
 use std::alloc::{AllocError, Global};
 use std::fmt::Write;
+use std::process::Abort;
 use std::test::Fail;
 
 fn clause(alloc: Global, numbers: &[i32]) -> Result<Statement, AllocError> {
@@ -22,82 +23,6 @@ fn cube(alloc: Global, numbers: &[i32]) -> Result<Statement, AllocError> {
         }
     }
     Ok(Statement::Cube(Cube::from_lits(alloc, &lits)?))
-}
-
-#[test]
-fn a_plain_text_gives_its_statements(rt: HostRuntime) -> Result<(), Fail> {
-    let text = b"p inccnf\n-1 2 8388607 0\n0\na 1 -1 0\na 0\n";
-    let found = read_plain(rt.alloc(), text)?;
-    let wanted = vec![in rt.alloc();
-        clause(rt.alloc(), &[-1, 2, 8388607])?,
-        clause(rt.alloc(), &[])?,
-        cube(rt.alloc(), &[-1, 1])?,
-        cube(rt.alloc(), &[])?,
-    ]?;
-    assert!(rt; found == Some(wanted));
-    Ok(())
-}
-
-#[test]
-fn plain_texts_are_told_from_others(rt: HostRuntime) -> Result<(), Fail> {
-    let plain = [
-        b"p inccnf\n".as_slice(),
-        b"p inccnf\n0\n",
-        b"p inccnf\na 0\n1 0\n",
-        b"p inccnf\n1 -1 2 0\n",
-        b"p inccnf\n10 -8388607 0\n",
-    ];
-    for text in plain {
-        assert!(rt; read_plain(rt.alloc(), text)?.is_some());
-    }
-    let other = [
-        b"".as_slice(),
-        b"p inccnf",
-        b"p inccnf \n",
-        b"p cnf 1 1\n1 0\n",
-        b"\np inccnf\n",
-        b"p inccnf\n1 0",
-        b"p inccnf\n1 0\r\n",
-        b"p inccnf\n\n",
-        b"p inccnf\n1\n",
-        b"p inccnf\n1 0 \n",
-        b"p inccnf\n 1 0\n",
-        b"p inccnf\n1  2 0\n",
-        b"p inccnf\n1 0 2 0\n",
-        b"p inccnf\n1 1 0\n",
-        b"p inccnf\n2 1 0\n",
-        b"p inccnf\n-1 1 0\n",
-        b"p inccnf\n01 0\n",
-        b"p inccnf\n+1 0\n",
-        b"p inccnf\n-0 0\n",
-        b"p inccnf\n- 0\n",
-        b"p inccnf\n1x 0\n",
-        b"p inccnf\n8388608 0\n",
-        b"p inccnf\n-99999999999999999999999999 0\n",
-        b"p inccnf\na\n",
-        b"p inccnf\na1 0\n",
-        b"p inccnf\na a 0\n",
-        b"p inccnf\n1 a 0\n",
-        b"c note\np inccnf\n",
-    ];
-    for text in other {
-        assert!(rt; read_plain(rt.alloc(), text)?.is_none());
-    }
-    Ok(())
-}
-
-#[test]
-fn a_plain_text_has_at_most_65536_bytes(rt: HostRuntime) -> Result<(), Fail> {
-    let mut text = Vec::from_slice(rt.alloc(), b"p inccnf\n")?;
-    for _ in 0..16381 {
-        text.extend_from_slice(b"1 0\n")?;
-    }
-    text.extend_from_slice(b"0\n")?;
-    assert!(rt; text.len() == 65535);
-    assert!(rt; read_plain(rt.alloc(), &text)?.is_some());
-    text.extend_from_slice(b"0\n")?;
-    assert!(rt; read_plain(rt.alloc(), &text)?.is_none());
-    Ok(())
 }
 
 // Adds a line of text for what a piece gave.
@@ -135,10 +60,19 @@ fn told(alloc: Global, text: &[u8], size: usize) -> Result<String, AllocError> {
     Ok(told)
 }
 
+// A reader tells this of each text, however it is cut.
+fn assert_told(alloc: Global, rt: &impl Abort, rows: &[(&[u8], &str)]) -> Result<(), AllocError> {
+    for (text, wanted) in rows {
+        for size in [1usize, 2, 3, 5, 100] {
+            let told = told(alloc, text, size)?;
+            assert_eq!(rt; told.as_str(), *wanted);
+        }
+    }
+    Ok(())
+}
+
 #[test]
-fn texts_give_their_statements_and_their_first_wrong_place_however_cut(
-    rt: HostRuntime,
-) -> Result<(), Fail> {
+fn a_text_begins_with_its_header(rt: HostRuntime) -> Result<(), Fail> {
     let rows = [
         (b"".as_slice(), "1 Header"),
         (b"\n\n", "2 Header"),
@@ -153,7 +87,18 @@ fn texts_give_their_statements_and_their_first_wrong_place_however_cut(
         (b"\xff\n", "1 Header"),
         (b"p inccnf", ""),
         (b"\n c note\np inccnf 3 4\n", ""),
-        (b"p inccnf\n1 2 0\n-1 0\na -2 0\n", "2c 1 2;3c -1;4a -2;"),
+    ];
+    assert_told(rt.alloc(), &rt, &rows)?;
+    Ok(())
+}
+
+#[test]
+fn statements_have_the_lines_of_their_first_tokens(rt: HostRuntime) -> Result<(), Fail> {
+    let rows = [
+        (
+            b"p inccnf\n1 2 0\n-1 0\na -2 0\n".as_slice(),
+            "2c 1 2;3c -1;4a -2;",
+        ),
         (
             b"p inccnf\r\n1 2 \r\nc inside\r\n0 -1\t0\r\na -2 0\r\n",
             "2c 1 2;4c -1;5a -2;",
@@ -162,13 +107,21 @@ fn texts_give_their_statements_and_their_first_wrong_place_however_cut(
             b"p inccnf\n2 1 2 -1 0 a 3 -3 0 0 a 0",
             "2c 1 -1 2;2a 3 -3;2c;2a;",
         ),
-        (b"p inccnf\n1 0\na 0\n2 3", "2c 1;3a;4 Unfinished"),
-        (b"p inccnf\n1 0\na\n\n", "2c 1;4 Unfinished"),
         (
             b"p inccnf\n1 0 a -8388607 8388607 0\n",
             "2c 1;2a 8388607 -8388607;",
         ),
-        (b"p inccnf\n8388608 0\n", "2 Variable"),
+        (b"p inccnf\n1 0\na 0\n2 3", "2c 1;3a;4 Unfinished"),
+        (b"p inccnf\n1 0\na\n\n", "2c 1;4 Unfinished"),
+    ];
+    assert_told(rt.alloc(), &rt, &rows)?;
+    Ok(())
+}
+
+#[test]
+fn the_first_wrong_token_is_told_with_its_line(rt: HostRuntime) -> Result<(), Fail> {
+    let rows = [
+        (b"p inccnf\n8388608 0\n".as_slice(), "2 Variable"),
         (b"p inccnf\n1\n-8388608 0\n", "3 Variable"),
         (b"p inccnf\n99999999999999999999999999 0\n", "2 Variable"),
         (b"p inccnf\n01 0\n", "2 Token"),
@@ -184,12 +137,7 @@ fn texts_give_their_statements_and_their_first_wrong_place_however_cut(
         (b"p inccnf\n1 0 p inccnf\n", "2c 1;2 Token"),
         (b"p inccnf\n1 0 8388608x 0\n", "2c 1;2 Token"),
     ];
-    for (text, wanted) in rows {
-        for size in [1usize, 2, 3, 5, 100] {
-            let told = told(rt.alloc(), text, size)?;
-            assert_eq!(rt; told.as_str(), wanted);
-        }
-    }
+    assert_told(rt.alloc(), &rt, &rows)?;
     Ok(())
 }
 

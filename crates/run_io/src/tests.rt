@@ -1,8 +1,10 @@
 //! What no clause says: worked cases, and calls of the system.
 use super::*;
+use std::alloc::{AllocError, Global};
 use std::cell::Cell;
 use std::fmt::Display;
 use std::io;
+use std::process::Abort;
 use std::test::Fail;
 
 const BYTES: [u8; 5] = [10, 20, 30, 40, 50];
@@ -15,10 +17,28 @@ struct Reads<'a> {
     answers: &'a [Result<usize, Failed>],
 }
 
+// The reads are answered so, and give the bytes in order.
+fn assert_reads(alloc: Global, rt: &impl Abort, case: &Reads) -> Result<(), AllocError> {
+    let mut source = MemorySource::new(
+        BYTES.to_vec(alloc)?,
+        case.cuts.to_vec(alloc)?,
+        case.fail.to_vec(alloc)?,
+    );
+    assert_eq!(rt; source.start(None), Ok(()));
+    let mut given = Vec::new(alloc);
+    for answer in case.answers {
+        let mut buf = [0; 9];
+        let read = source.read(&mut buf[..case.room.min(9)]);
+        assert_eq!(rt; read, *answer);
+        given.extend_from_slice(&buf[..read.unwrap_or(0).min(9)])?;
+    }
+    let whole = if case.room == 0 { 0 } else { 5 };
+    assert_eq!(rt; given.as_slice(), &BYTES[..whole]);
+    Ok(())
+}
+
 #[test]
-fn a_memory_source_gives_its_bytes_by_cuts_and_fails_at_planned_calls(
-    rt: HostRuntime,
-) -> Result<(), Fail> {
+fn a_memory_source_gives_its_bytes_by_cuts(rt: HostRuntime) -> Result<(), Fail> {
     let cases = [
         // As many as fit, to the end.
         Reads {
@@ -34,6 +54,16 @@ fn a_memory_source_gives_its_bytes_by_cuts_and_fails_at_planned_calls(
             room: 2,
             answers: &[Ok(1), Ok(1), Ok(2), Ok(1), Ok(0)],
         },
+    ];
+    for case in &cases {
+        assert_reads(rt.alloc(), &rt, case)?;
+    }
+    Ok(())
+}
+
+#[test]
+fn a_memory_source_fails_at_planned_calls(rt: HostRuntime) -> Result<(), Fail> {
+    let cases = [
         // The start is call 1, and a failed read uses up no cut.
         Reads {
             cuts: &[3],
@@ -50,22 +80,8 @@ fn a_memory_source_gives_its_bytes_by_cuts_and_fails_at_planned_calls(
         },
     ];
     let alloc = rt.alloc();
-    for (number, case) in cases.iter().enumerate() {
-        let mut source = MemorySource::new(
-            BYTES.to_vec(alloc)?,
-            case.cuts.to_vec(alloc)?,
-            case.fail.to_vec(alloc)?,
-        );
-        assert_eq!(rt; source.start(None), Ok(()), "case {number}");
-        let mut given = Vec::new(alloc);
-        for answer in case.answers {
-            let mut buf = [0; 9];
-            let read = source.read(&mut buf[..case.room.min(9)]);
-            assert_eq!(rt; read, *answer, "case {number}");
-            given.extend_from_slice(&buf[..read.unwrap_or(0).min(9)])?;
-        }
-        let whole = if case.room == 0 { 0 } else { 5 };
-        assert_eq!(rt; given.as_slice(), &BYTES[..whole], "case {number}");
+    for case in &cases {
+        assert_reads(alloc, &rt, case)?;
     }
     let mut source = MemorySource::new(BYTES.to_vec(alloc)?, Vec::new(alloc), [1].to_vec(alloc)?);
     assert_eq!(rt; source.start(Some("any")), Err(Failed));
@@ -82,10 +98,20 @@ struct Writes<'a> {
     taken: &'a [u8],
 }
 
+// The writes of all bytes are answered so, and then an empty write and a flush are answered Ok.
+fn assert_writes(alloc: Global, rt: &impl Abort, case: &Writes) -> Result<(), AllocError> {
+    let mut sink = MemorySink::new(alloc, case.room, case.most, case.fail.to_vec(alloc)?)?;
+    for answer in case.answers {
+        assert_eq!(rt; sink.write(&BYTES), *answer);
+    }
+    assert_eq!(rt; sink.write(&[]), Ok(0));
+    assert_eq!(rt; sink.flush(), Ok(()));
+    assert_eq!(rt; sink.bytes(), case.taken);
+    Ok(())
+}
+
 #[test]
-fn a_memory_sink_takes_up_to_its_room_and_fails_at_planned_calls(
-    rt: HostRuntime,
-) -> Result<(), Fail> {
+fn a_memory_sink_takes_up_to_its_room(rt: HostRuntime) -> Result<(), Fail> {
     let cases = [
         Writes {
             room: 100,
@@ -93,14 +119,6 @@ fn a_memory_sink_takes_up_to_its_room_and_fails_at_planned_calls(
             fail: &[],
             answers: &[Ok(3)],
             taken: &[10, 20, 30],
-        },
-        // A most of 0 counts as 1.
-        Writes {
-            room: 100,
-            most: 0,
-            fail: &[2],
-            answers: &[Ok(1), Err(Failed), Ok(1)],
-            taken: &[10, 10],
         },
         // What room is left, and then none.
         Writes {
@@ -118,16 +136,24 @@ fn a_memory_sink_takes_up_to_its_room_and_fails_at_planned_calls(
             taken: &[],
         },
     ];
-    let alloc = rt.alloc();
-    for (number, case) in cases.iter().enumerate() {
-        let mut sink = MemorySink::new(alloc, case.room, case.most, case.fail.to_vec(alloc)?)?;
-        for answer in case.answers {
-            assert_eq!(rt; sink.write(&BYTES), *answer, "case {number}");
-        }
-        assert_eq!(rt; sink.write(&[]), Ok(0), "case {number}");
-        assert_eq!(rt; sink.flush(), Ok(()), "case {number}");
-        assert_eq!(rt; sink.bytes(), case.taken, "case {number}");
+    for case in &cases {
+        assert_writes(rt.alloc(), &rt, case)?;
     }
+    Ok(())
+}
+
+#[test]
+fn a_memory_sink_fails_at_planned_calls(rt: HostRuntime) -> Result<(), Fail> {
+    let alloc = rt.alloc();
+    // A most of 0 counts as 1.
+    let case = Writes {
+        room: 100,
+        most: 0,
+        fail: &[2],
+        answers: &[Ok(1), Err(Failed), Ok(1)],
+        taken: &[10, 10],
+    };
+    assert_writes(alloc, &rt, &case)?;
     let mut sink = MemorySink::new(alloc, 1, 1, [1].to_vec(alloc)?)?;
     assert_eq!(rt; sink.flush(), Err(Failed));
     assert_eq!(rt; sink.flush(), Ok(()));

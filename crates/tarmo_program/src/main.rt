@@ -6,11 +6,7 @@
 use run_io::{StdSink, StdSource};
 use std::process::ExitCode;
 use std::{env, io};
-use tarmo_run::run_alone;
-
-const WORDS_REFUSED: u8 = 5;
-
-const NO_MEMORY: u8 = 6;
+use tarmo_run::{NO_MEMORY, WORDS_REFUSED, run_alone};
 
 fn main(rt: HostRuntime) -> ExitCode {
     let status = match words(&rt) {

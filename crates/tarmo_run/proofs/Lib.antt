@@ -1,7 +1,9 @@
 pub mod Closing
-pub mod Filled
+pub mod Completeness
 pub mod Greatest
 pub mod Place
 pub mod Progress
+pub mod Reached
 pub mod Results
 pub mod Short
+pub mod Statements

@@ -1,79 +1,154 @@
--- How far a run has come through its jobs.
+-- How far a run has come through the jobs of its text.
 use Rattle.std.proofs.Common.{◌≡◌, ◌∙◌, ℕ, ◌+◌, ◌^◌, ◌<◌, ◌≤◌, List, [], ◌∷◌, ◌++◌, length, take, Option, refl, ap, sym, subst, arith, append_assoc, append-nil}
 use Rattle.std.proofs.lemmas.List.{length-append}
-use Rattle.std.proofs.Math.Seq.{take-append_seam, take-append-add}
+use Rattle.std.proofs.Math.Seq.{take-append-add}
 use Rattle.run_io.specs.Bytes.{appended}
 use Rattle.run_io.proofs.Laws.{appended_nothing, appended_twice}
-use Rattle.icnf_text.specs.Jobs.{Job}
+use Rattle.icnf_text.specs.declared.statements.Numbered.{Numbered}
+use Rattle.icnf_text.specs.declared.statements.Statement.{Statement}
+use Rattle.icnf_text.specs.declared.statements.Statement.TheVariants.{Clause, Cube}
+use Rattle.icnf_text.specs.Jobs.{Job, jobs_after, clauses_after}
+use Rattle.tarmo_run.specs.declared.queries.Halt.{Halt}
+use Rattle.tarmo_run.specs.declared.queries.Halt.TheVariants.{Unwritten, Memory}
 use Rattle.tarmo_run.specs.Block.{IsBlock}
-use Rattle.tarmo_run.specs.Output.{AreBlocks}
-use Rattle.tarmo_run.specs.Written.{TookBlocks, TookSome, TookFront}
+use Rattle.tarmo_run.specs.Output.{AreBlocks, unnumbered}
+use Rattle.tarmo_run.specs.Written.{Answered, TookBlocks, TookFront, WroteUntil, of_cube}
+use Rattle.tarmo_run.proofs.Statements.{more_jobs, more_clauses}
 
--- the blocks of the jobs that are done were taken, and the others are left
-pub record Progress (jobs left : List Job) (count : ℕ) (before now : Option (List ℕ)) : Type 0 where
-  pub done : List Job
-  pub text : List ℕ
-  pub blocks : AreBlocks 1 done text
-  pub number : count ≡ length done
-  pub taken : now ≡ appended before text
-  pub whole : jobs ≡ done ++ left
-
-AreBlocks-push : (number : ℕ) (jobs : List Job) (text : List ℕ) (job : Job) (block : List ℕ) → AreBlocks number jobs text → IsBlock (number + length jobs) job.clauses job.cube block → AreBlocks number (jobs ++ job ∷ []) (text ++ block)
-AreBlocks-push number [] text job block are is =
-    (block, [], subst (λ n. IsBlock n job.clauses job.cube block) (omega arith) is, refl, ap (λ xs. xs ++ block) are ∙ sym (append-nil block))
-AreBlocks-push number (first ∷ jobs) text job block are is = (
+AreBlocks-append : (number : ℕ) (first second : List Job) (text more : List ℕ) → AreBlocks number first text → AreBlocks (number + length first) second more → AreBlocks number (first ++ second) (text ++ more)
+AreBlocks-append number [] second text more are rest =
+    subst (λ (xs : List ℕ). AreBlocks number second (xs ++ more)) (sym are) (subst (λ n. AreBlocks n second more) (omega arith) rest)
+AreBlocks-append number (job ∷ first) second text more are rest = (
   are.0,
-  are.1 ++ block,
+  are.1 ++ more,
   are.2,
-  AreBlocks-push (number + 1) jobs are.1 job block are.3 (subst (λ n. IsBlock n job.clauses job.cube block) (omega arith) is),
-  ap (λ xs. xs ++ block) are.4 ∙ append_assoc are.0 are.1 block,
+  AreBlocks-append (number + 1) first second are.1 more are.3 (subst (λ n. AreBlocks n second more) (omega arith) rest),
+  ap (λ xs. xs ++ more) are.4 ∙ append_assoc are.0 are.1 more,
 )
 
-pub none_done : (jobs : List Job) (before : Option (List ℕ)) → Progress jobs jobs 0 before before
-none_done jobs before = record { done = []; text = []; blocks = refl; number = refl; taken = sym (appended_nothing before); whole = refl }
-
-pub one_more_done : (jobs left : List Job) (job : Job) (count : ℕ) (before now next : Option (List ℕ)) (block : List ℕ) → Progress jobs (job ∷ left) count before now → IsBlock (count + 1) job.clauses job.cube block → next ≡ appended now block → Progress jobs left (count + 1) before next
-one_more_done jobs left job count before now next block p is more = record {
-  done = p.done ++ job ∷ [];
-  text = p.text ++ block;
-  blocks = AreBlocks-push 1 p.done p.text job block p.blocks (subst (λ n. IsBlock n job.clauses job.cube block) (omega (arith, p.number)) is);
-  number = omega (arith, p.number, length-append p.done (job ∷ []));
-  taken = more ∙ ap (λ taken. appended taken block) p.taken ∙ appended_twice before p.text block;
-  whole = p.whole ∙ sym (append_assoc p.done (job ∷ []) left);
+-- the blocks of some jobs, and then those of more
+took_more : (number next : ℕ) (first second : List Job) (before now after : Option (List ℕ)) → next ≡ number + length first → TookBlocks number first before now → TookBlocks next second now after → TookBlocks number (first ++ second) before after
+took_more number next first second before now after is one two = record {
+  blocks = one.blocks ++ two.blocks;
+  right = AreBlocks-append number first second one.blocks two.blocks one.right (subst (λ n. AreBlocks n second two.blocks) is two.right);
+  taken = two.taken ∙ ap (λ taken. appended taken two.blocks) one.taken ∙ appended_twice before one.blocks two.blocks;
 }
 
-pub all_done : (jobs left : List Job) (count : ℕ) (before now : Option (List ℕ)) → Progress jobs left count before now → left ≡ [] → (count ≡ length jobs) × TookBlocks jobs before now
-all_done jobs left count before now p none =
-    let all : jobs ≡ p.done = p.whole ∙ ap (λ rest. p.done ++ rest) none ∙ append-nil p.done in
-    (p.number ∙ ap length (sym all), record { blocks = p.text; right = subst (λ (xs : List Job). AreBlocks 1 xs p.text) (sym all) p.blocks; taken = p.taken })
+longer : (all first second rest more whole : List Job) → whole ≡ first ++ second → second ≡ rest ++ more → whole ≡ (first ++ rest) ++ more
+longer all first second rest more whole is parts = is ∙ ap (λ (jobs : List Job). first ++ jobs) parts ∙ sym (append_assoc first rest more)
 
-pub some_done : (jobs left : List Job) (count : ℕ) (before now : Option (List ℕ)) → Progress jobs left count before now → TookSome jobs before now
-some_done jobs left count before now p = record {
-  count = length p.done;
-  some = record {
-    blocks = p.text;
-    right = subst (λ (xs : List Job). AreBlocks 1 xs p.text) (sym (ap (take (length p.done)) p.whole ∙ take-append_seam p.done left)) p.blocks;
-    taken = p.taken;
-  };
+until_more : (halt : Halt) (number next : ℕ) (first second whole : List Job) (before now after : Option (List ℕ)) → next ≡ number + length first → whole ≡ first ++ second → TookBlocks number first before now → WroteUntil halt next second now after → WroteUntil halt number whole before after
+until_more Memory number next first second whole before now after is all one two = record {
+  done = first ++ two.done;
+  rest = two.rest;
+  whole = longer whole first second two.done two.rest whole all two.whole;
+  took = took_more number next first two.done before now after is one two.took;
+}
+until_more Unwritten number next first second whole before now after is all one two = record {
+  done = first ++ two.done;
+  rest = two.rest;
+  whole = longer whole first second two.done two.rest whole all two.whole;
+  blocks = one.blocks ++ two.blocks;
+  right = AreBlocks-append number first two.done one.blocks two.blocks one.right (subst (λ n. AreBlocks n two.done two.blocks) is two.right);
+  size = length one.blocks + two.size;
+  within = omega (arith, length-append one.blocks two.blocks, two.within);
+  taken = two.taken ∙ ap (λ taken. appended taken (take two.size two.blocks)) one.taken ∙ appended_twice before one.blocks (take two.size two.blocks)
+      ∙ ap (appended before) (sym (take-append-add one.blocks two.blocks two.size));
 }
 
-pub broken_block : (jobs left : List Job) (job : Job) (count size : ℕ) (before now next : Option (List ℕ)) (block : List ℕ) → Progress jobs (job ∷ left) count before now → IsBlock (count + 1) job.clauses job.cube block → size ≤ length block → next ≡ appended now (take size block) → TookFront jobs before next
-broken_block jobs left job count size before now next block p is within more =
+-- writing stopped early among more jobs
+until_longer : (halt : Halt) (number : ℕ) (jobs more whole : List Job) (before after : Option (List ℕ)) → whole ≡ jobs ++ more → WroteUntil halt number jobs before after → WroteUntil halt number whole before after
+until_longer Memory number jobs more whole before after is some = record {
+  done = some.done;
+  rest = some.rest ++ more;
+  whole = is ∙ ap (λ (jobs : List Job). jobs ++ more) some.whole ∙ append_assoc some.done some.rest more;
+  took = some.took;
+}
+until_longer Unwritten number jobs more whole before after is front = record {
+  done = front.done;
+  rest = front.rest ++ more;
+  whole = is ∙ ap (λ (jobs : List Job). jobs ++ more) front.whole ∙ append_assoc front.done front.rest more;
+  blocks = front.blocks;
+  right = front.right;
+  size = front.size;
+  within = front.within;
+  taken = front.taken;
+}
+
+pub nothing_answered : (clauses : List (List ℕ)) (jobs : ℕ) (before : Option (List ℕ)) → Answered clauses jobs [] clauses jobs before before
+nothing_answered clauses jobs before = record {
+  known = refl;
+  counted = omega arith;
+  took = record { blocks = []; right = refl; taken = sym (appended_nothing before) };
+}
+
+pub answered_more : (c0 c1 c2 : List (List ℕ)) (j0 j1 j2 : ℕ) (first second : List Numbered) (before now after : Option (List ℕ)) → Answered c0 j0 first c1 j1 before now → Answered c1 j1 second c2 j2 now after → Answered c0 j0 (first ++ second) c2 j2 before after
+answered_more c0 c1 c2 j0 j1 j2 first second before now after one two =
+    let jobs : jobs_after c0 (unnumbered (first ++ second)) ≡ jobs_after c0 (unnumbered first) ++ jobs_after c1 (unnumbered second) =
+    more_jobs c0 first second ∙ ap (λ (c : List (List ℕ)). jobs_after c0 (unnumbered first) ++ jobs_after c (unnumbered second)) (sym one.known) in
     record {
-      count = length (p.done ++ job ∷ []);
-      blocks = p.text ++ block;
-      right = subst (λ (xs : List Job). AreBlocks 1 xs (p.text ++ block))
-          (sym (ap (take (length (p.done ++ job ∷ []))) (p.whole ∙ sym (append_assoc p.done (job ∷ []) left)) ∙ take-append_seam (p.done ++ job ∷ []) left))
-          (AreBlocks-push 1 p.done p.text job block p.blocks (subst (λ n. IsBlock n job.clauses job.cube block) (omega (arith, p.number)) is));
-      size = length p.text + size;
-      within = omega (arith, length-append p.text block);
-      taken = more ∙ ap (λ taken. appended taken (take size block)) p.taken ∙ appended_twice before p.text (take size block)
-          ∙ ap (appended before) (sym (take-append-add p.text block size));
+      known = two.known ∙ ap (λ (c : List (List ℕ)). clauses_after c (unnumbered second)) one.known ∙ sym (more_clauses c0 first second);
+      counted = omega (arith, two.counted, one.counted, ap length jobs, length-append (jobs_after c0 (unnumbered first)) (jobs_after c1 (unnumbered second)));
+      took = subst (λ (xs : List Job). TookBlocks (j0 + 1) xs before after) (sym jobs)
+          (took_more (j0 + 1) (j1 + 1) (jobs_after c0 (unnumbered first)) (jobs_after c1 (unnumbered second)) before now after (omega (arith, one.counted)) one.took two.took);
     }
 
-pub shorter : (size : ℕ) (shown block : List ℕ) → size < length shown → shown ≡ block → size ≤ length block
-shorter size shown block within same = let sizes = ap length same in omega arith
+-- writing stopped among the jobs of the second statements
+pub stopped_more : (halt : Halt) (c0 c1 : List (List ℕ)) (j0 j1 : ℕ) (first second more all : List Numbered) (before now after : Option (List ℕ)) → all ≡ first ++ (second ++ more) → Answered c0 j0 first c1 j1 before now → WroteUntil halt (j1 + 1) (jobs_after c1 (unnumbered second)) now after → WroteUntil halt (j0 + 1) (jobs_after c0 (unnumbered all)) before after
+stopped_more halt c0 c1 j0 j1 first second more all before now after is one two =
+    let jobs : jobs_after c0 (unnumbered all) ≡ jobs_after c0 (unnumbered first) ++ jobs_after c1 (unnumbered (second ++ more)) =
+    ap (λ (list : List Numbered). jobs_after c0 (unnumbered list)) is ∙ more_jobs c0 first (second ++ more) ∙ ap (λ (c : List (List ℕ)). jobs_after c0 (unnumbered first) ++ jobs_after c (unnumbered (second ++ more))) (sym one.known) in
+    until_more halt (j0 + 1) (j1 + 1) (jobs_after c0 (unnumbered first)) (jobs_after c1 (unnumbered (second ++ more))) (jobs_after c0 (unnumbered all)) before now after (omega (arith, one.counted)) jobs one.took
+    (until_longer halt (j1 + 1) (jobs_after c1 (unnumbered second)) (jobs_after (clauses_after c1 (unnumbered second)) (unnumbered more)) (jobs_after c1 (unnumbered (second ++ more))) now after (more_jobs c1 second more) two)
+
+-- some of the statements are answered, and the others are left
+pub record Progress (c0 : List (List ℕ)) (j0 : ℕ) (all left : List Numbered) (c1 : List (List ℕ)) (j1 : ℕ) (before now : Option (List ℕ)) : Type 0 where
+  pub done : List Numbered
+  pub whole : all ≡ done ++ left
+  pub answered : Answered c0 j0 done c1 j1 before now
+
+pub none_done : (clauses : List (List ℕ)) (jobs : ℕ) (all : List Numbered) (before : Option (List ℕ)) → Progress clauses jobs all all clauses jobs before before
+none_done clauses jobs all before = record { done = []; whole = refl; answered = nothing_answered clauses jobs before }
+
+pub one_more_done : (c0 c1 c2 : List (List ℕ)) (j0 j1 j2 : ℕ) (all left rest : List Numbered) (numbered : Numbered) (before now after : Option (List ℕ)) → left ≡ numbered ∷ rest → Progress c0 j0 all left c1 j1 before now → Answered c1 j1 (numbered ∷ []) c2 j2 now after → Progress c0 j0 all rest c2 j2 before after
+one_more_done c0 c1 c2 j0 j1 j2 all left rest numbered before now after next p one = record {
+  done = p.done ++ numbered ∷ [];
+  whole = p.whole ∙ ap (λ (xs : List Numbered). p.done ++ xs) next ∙ sym (append_assoc p.done (numbered ∷ []) rest);
+  answered = answered_more c0 c1 c2 j0 j1 j2 p.done (numbered ∷ []) before now after p.answered one;
+}
+
+pub all_done : (c0 c1 : List (List ℕ)) (j0 j1 : ℕ) (all left : List Numbered) (before now : Option (List ℕ)) → left ≡ [] → Progress c0 j0 all left c1 j1 before now → Answered c0 j0 all c1 j1 before now
+all_done c0 c1 j0 j1 all left before now none p =
+    subst (λ (list : List Numbered). Answered c0 j0 list c1 j1 before now) (sym (p.whole ∙ ap (λ (xs : List Numbered). p.done ++ xs) none ∙ append-nil p.done)) p.answered
+
+pub stopped_at : (halt : Halt) (c0 c1 : List (List ℕ)) (j0 j1 : ℕ) (all left rest : List Numbered) (numbered : Numbered) (before now after : Option (List ℕ)) → left ≡ numbered ∷ rest → Progress c0 j0 all left c1 j1 before now → WroteUntil halt (j1 + 1) (jobs_after c1 (unnumbered (numbered ∷ []))) now after → WroteUntil halt (j0 + 1) (jobs_after c0 (unnumbered all)) before after
+stopped_at halt c0 c1 j0 j1 all left rest numbered before now after next p until =
+    stopped_more halt c0 c1 j0 j1 p.done (numbered ∷ []) rest all before now after (p.whole ∙ ap (λ (xs : List Numbered). p.done ++ xs) next) p.answered until
+
+few_jobs : (clauses : List (List ℕ)) (statement : Statement) → length (jobs_after clauses (statement ∷ [])) ≤ 1
+few_jobs clauses (Clause clause) = omega arith
+few_jobs clauses (Cube cube) = omega arith
 
 -- one statement fewer is left
-pub fewer : {X : Type 0} (jobs : ℕ) (all : List X) (first : X) (rest : List X) → all ≡ first ∷ rest → jobs + length all < 2 ^ 64 → (jobs + 1) + length rest < 2 ^ 64
-fewer jobs all first rest same few = let sizes = ap length same in omega arith
+pub fewer : (c1 c2 : List (List ℕ)) (j1 j2 : ℕ) (left rest : List Numbered) (numbered : Numbered) (now after : Option (List ℕ)) → left ≡ numbered ∷ rest → j1 + length left < 2 ^ 64 → Answered c1 j1 (numbered ∷ []) c2 j2 now after → j2 + length rest < 2 ^ 64
+fewer c1 c2 j1 j2 left rest numbered now after next few one = omega (arith, ap length next, few, one.counted, few_jobs c1 numbered.statement)
+
+-- a front of one block was taken
+pub broken_block : (number size : ℕ) (clauses : List (List ℕ)) (cube block shown : List ℕ) (before after : Option (List ℕ)) → IsBlock number clauses cube block → shown ≡ block → size < length shown → after ≡ appended before (take size shown) → TookFront number (of_cube clauses cube) before after
+broken_block number size clauses cube block shown before after is same within more = record {
+  done = of_cube clauses cube;
+  rest = [];
+  whole = refl;
+  blocks = block;
+  right = (block, [], is, refl, sym (append-nil block));
+  size = size;
+  within = omega (arith, within, ap length same);
+  taken = more ∙ ap (λ xs. appended before (take size xs)) same;
+}
+
+pub one_block : (number : ℕ) (clauses : List (List ℕ)) (cube block shown : List ℕ) (before after : Option (List ℕ)) → IsBlock number clauses cube block → shown ≡ block → after ≡ appended before shown → TookBlocks number (of_cube clauses cube) before after
+one_block number clauses cube block shown before after is same more = record {
+  blocks = block;
+  right = (block, [], is, refl, sym (append-nil block));
+  taken = more ∙ ap (appended before) same;
+}

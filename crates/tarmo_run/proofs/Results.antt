@@ -1,6 +1,12 @@
 -- Clauses on results.
-use Rattle.std.specs.Prelude.{Result, Ok, Err, OnErr}
+use Rattle.std.proofs.Common.{◌≡◌}
+use Rattle.std.specs.Prelude.{Result, Ok, Err, OnErr, MatchResult}
 
 pub OnErr-always : {T E P : Type 0} (r : Result T E) → P → OnErr r P
 OnErr-always (Ok x) p = tt
 OnErr-always (Err e) p = p
+
+-- what holds of the fault holds of the result that has it
+pub match_err : {T E : Type 0} (r : Result T E) (fault : E) (P : T → Type 0) (Q : E → Type 0) → r ≡ Err fault → Q fault → MatchResult r P Q
+match_err (Ok x) fault P Q is q = cc
+match_err (Err e) fault P Q is q = let same : e ≡ fault = cc in rw same q

@@ -1,9 +1,13 @@
 -- What a run writes for the bytes that it read.
-use Rattle.std.specs.Prelude.{◌≡◌, ℕ, ◌+◌, ◌⊎◌, Bool, true, false, Option, None, IsSome, List, [], ◌∷◌, ◌++◌, length, take, codes}
-use Rattle.std.specs.Option.{option_map_or}
+use Rattle.std.specs.Prelude.{◌≡◌, ℕ, ◌+◌, ◌⊎◌, Bool, true, false, Option, Some, None, List, [], ◌∷◌, ◌++◌, map, length, take, codes}
 use Rattle.std.specs.Fmt.{decimal}
 use Rattle.run_io.specs.Bytes.{followed_by, appended}
-use Rattle.icnf_text.specs.Plain.{plain_statements}
+use Rattle.icnf_text.specs.declared.faults.Reason.{Reason}
+use Rattle.icnf_text.specs.declared.faults.Reason.TheVariants as reason
+use Rattle.icnf_text.specs.declared.faults.Fault.{Fault}
+use Rattle.icnf_text.specs.declared.statements.Statement.{Statement}
+use Rattle.icnf_text.specs.declared.statements.Numbered.{Numbered}
+use Rattle.icnf_text.specs.Judgement.{statements, wrong}
 use Rattle.icnf_text.specs.Jobs.{Job, jobs_of}
 use Rattle.tarmo_run.specs.declared.endings.Ending.{Ending}
 use Rattle.tarmo_run.specs.declared.endings.Ending.TheVariants.{Complete, Refused, Unread, Exhausted}
@@ -14,9 +18,13 @@ abbrev pub AreBlocks : ℕ → List Job → List ℕ → Type 0
 AreBlocks number [] text = text ≡ []
 AreBlocks number (job ∷ jobs) text = (block : List ℕ) × (rest : List ℕ) × IsBlock number job.clauses job.cube block × AreBlocks (number + 1) jobs rest × (text ≡ block ++ rest)
 
--- the jobs of a text, none where it isn't plain
-abbrev pub jobs_in : List ℕ → List Job
-jobs_in bytes = option_map_or jobs_of (plain_statements bytes) []
+-- statements without their lines
+abbrev pub unnumbered : List Numbered → List Statement
+unnumbered list = map (λ (numbered : Numbered). numbered.statement) list
+
+-- The jobs of a text, up to its first wrong place. Of a text that isn't ended only a front has come.
+abbrev pub jobs_in : List ℕ → Bool → List Job
+jobs_in bytes ended = jobs_of (unnumbered (statements bytes ended))
 
 -- what a source gave in a call, whether it is ended, and whether it failed
 pub record Reading : Type 0 where
@@ -24,30 +32,33 @@ pub record Reading : Type 0 where
   pub ended : Bool
   pub failed : Bool
 
--- The source was read to its end, or past the most bytes that a plain text has.
-pub record IsWhole (reading : Reading) : Type 0 where
-  pub unfailing : reading.failed ≡ false
-  pub enough : (reading.ended ≡ true) ⊎ (length reading.bytes ≡ 65537)
-
 abbrev pub status_of : Ending → ℕ
 status_of (Complete jobs) = 0
-status_of Refused = 2
+status_of (Refused fault) = 2
 status_of Unread = 3
 status_of Exhausted = 6
 
+abbrev pub reason_text : Reason → List ℕ
+reason_text reason.Header = codes "header"
+reason_text reason.Token = codes "token"
+reason_text reason.Variable = codes "variable"
+reason_text reason.Unfinished = codes "unfinished"
+reason_text reason.TooMany = codes "too-many"
+reason_text reason.TooLong = codes "too-long"
+
 abbrev pub last_line_of : Ending → List ℕ
 last_line_of (Complete jobs) = codes "end " ++ decimal jobs ++ codes "\n"
-last_line_of Refused = codes "refused form\n"
+last_line_of (Refused fault) = codes "refused " ++ decimal fault.line ++ codes " " ++ reason_text fault.reason ++ codes "\n"
 last_line_of Unread = codes "fault read\n"
 last_line_of Exhausted = codes "memory\n"
 
--- The blocks before the last line: of every job of the text, of none where it isn't plain or the source failed, and
--- of the first so many where memory ran out.
+-- When a run ends so, and the blocks before its last line: those of all jobs before the end of the text, before its first
+-- wrong place, or before the source failed; and those of the first so many jobs where memory ran out.
 abbrev pub AreShown : Ending → Reading → List ℕ → Type 0
-AreShown (Complete jobs) reading blocks = IsWhole reading × IsSome (plain_statements reading.bytes) × (jobs ≡ length (jobs_in reading.bytes)) × AreBlocks 1 (jobs_in reading.bytes) blocks
-AreShown Refused reading blocks = IsWhole reading × (plain_statements reading.bytes ≡ None) × (blocks ≡ [])
-AreShown Unread reading blocks = (reading.failed ≡ true) × (blocks ≡ [])
-AreShown Exhausted reading blocks = (count : ℕ) × AreBlocks 1 (take count (jobs_in reading.bytes)) blocks
+AreShown (Complete jobs) reading blocks = (reading.failed ≡ false) × (reading.ended ≡ true) × (wrong reading.bytes reading.ended ≡ None) × (jobs ≡ length (jobs_in reading.bytes reading.ended)) × AreBlocks 1 (jobs_in reading.bytes reading.ended) blocks
+AreShown (Refused fault) reading blocks = (reading.failed ≡ false) × (wrong reading.bytes reading.ended ≡ Some fault) × AreBlocks 1 (jobs_in reading.bytes reading.ended) blocks
+AreShown Unread reading blocks = (reading.failed ≡ true) × (wrong reading.bytes reading.ended ≡ None) × AreBlocks 1 (jobs_in reading.bytes reading.ended) blocks
+AreShown Exhausted reading blocks = (count : ℕ) × AreBlocks 1 (take count (jobs_in reading.bytes reading.ended)) blocks
 
 -- the whole output of a run that ends so
 pub record IsOutput (ending : Ending) (reading : Reading) (text : List ℕ) : Type 0 where
@@ -63,3 +74,18 @@ pub record IsRun (left_before left_after : Option (List ℕ)) (ended failed : Bo
   pub text : List ℕ
   pub output : IsOutput ending (record { bytes = bytes; ended = ended; failed = failed }) text
   pub taken : ((status ≡ status_of ending) × (taken_after ≡ appended taken_before text)) ⊎ ((status ≡ 4) × (count : ℕ) × (taken_after ≡ appended taken_before (take count text)))
+
+-- how a run over this whole text ends, where nothing fails and memory is there
+abbrev pub ending_by : Option Fault → ℕ → Ending
+ending_by None jobs = Complete jobs
+ending_by (Some fault) jobs = Refused fault
+
+abbrev pub ending_of : List ℕ → Ending
+ending_of text = ending_by (wrong text true) (length (jobs_in text true))
+
+-- Every job of the text has its block, up to the first wrong place, and the text decides the last line and the status.
+pub record IsAnswered (text : List ℕ) (taken_before taken_after : Option (List ℕ)) (status : ℕ) : Type 0 where
+  pub blocks : List ℕ
+  pub right : AreBlocks 1 (jobs_in text true) blocks
+  pub taken : taken_after ≡ appended taken_before (blocks ++ last_line_of (ending_of text))
+  pub told : status ≡ status_of (ending_of text)

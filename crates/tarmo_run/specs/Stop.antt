@@ -1,15 +1,15 @@
--- Why reading or writing stopped.
+-- Why writing the blocks of jobs stopped.
 use Rattle.std.specs.Prelude.{◌≡◌, ℕ, ◌<◌, ◌≤◌, ◌⊎◌}
 use Rattle.run_io.specs.Fault.{last_count}
-use Rattle.tarmo_run.specs.declared.input.ReadFault.{ReadFault}
-use Rattle.tarmo_run.specs.declared.input.ReadFault.TheVariants.{Failed, Memory}
+use Rattle.tarmo_run.specs.declared.queries.Halt.{Halt}
+use Rattle.tarmo_run.specs.declared.queries.Halt.TheVariants.{Unwritten, Memory}
 
 -- the count of faults rose, or it stands at its last number
 pub record HasRisen (before now : ℕ) : Type 0 where
   pub later : before ≤ now
   pub risen : (before < now) ⊎ (now ≡ last_count)
 
--- a source fault is counted, and want of memory leaves the count
-abbrev pub IsReadFault : ReadFault → ℕ → ℕ → Type 0
-IsReadFault Failed before now = HasRisen before now
-IsReadFault Memory before now = now ≡ before
+-- a fault of the sink is counted, and want of memory leaves the count
+abbrev pub IsHalt : Halt → ℕ → ℕ → Type 0
+IsHalt Unwritten before now = HasRisen before now
+IsHalt Memory before now = now ≡ before

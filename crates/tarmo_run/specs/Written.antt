@@ -1,59 +1,86 @@
 -- What stands written before the last line.
-use Rattle.std.specs.Prelude.{◌≡◌, ℕ, ◌≤◌, ◌⊎◌, Option, None, IsSome, Bool, List, length, take}
+use Rattle.std.specs.Prelude.{◌≡◌, ℕ, ◌+◌, ◌≤◌, ◌⊎◌, Option, Some, None, Bool, false, List, [], ◌∷◌, ◌++◌, length, take}
 use Rattle.run_io.specs.Bytes.{followed_by, appended}
-use Rattle.icnf_text.specs.Plain.{plain_statements}
-use Rattle.icnf_text.specs.Jobs.{Job}
+use Rattle.icnf_text.specs.Judgement.{statements, wrong}
+use Rattle.icnf_text.specs.Jobs.{Job, clauses_after, jobs_after}
+use Rattle.icnf_text.specs.declared.faults.Fault.{Fault}
+use Rattle.icnf_text.specs.declared.statements.Numbered.{Numbered}
+use Rattle.icnf_text.specs.Machine.{State, HasRead}
 use Rattle.tarmo_run.specs.declared.endings.Ending.{Ending}
 use Rattle.tarmo_run.specs.declared.endings.Ending.TheVariants.{Complete, Refused, Unread, Exhausted}
-use Rattle.tarmo_run.specs.Output.{AreBlocks, AreShown, IsOutput, jobs_in, last_line_of}
+use Rattle.tarmo_run.specs.declared.queries.Halt.{Halt}
+use Rattle.tarmo_run.specs.declared.queries.Halt.TheVariants.{Unwritten, Memory}
+use Rattle.tarmo_run.specs.Output.{AreBlocks, AreShown, IsOutput, Reading, unnumbered, jobs_in, last_line_of}
 
--- the blocks of these jobs were taken
-pub record TookBlocks (jobs : List Job) (before after : Option (List ℕ)) : Type 0 where
+-- the blocks of these jobs were taken, the first of which has this number
+pub record TookBlocks (number : ℕ) (jobs : List Job) (before after : Option (List ℕ)) : Type 0 where
   pub blocks : List ℕ
-  pub right : AreBlocks 1 jobs blocks
+  pub right : AreBlocks number jobs blocks
   pub taken : after ≡ appended before blocks
 
 -- the blocks of the first of these jobs were taken
-pub record TookSome (jobs : List Job) (before after : Option (List ℕ)) : Type 0 where
-  pub count : ℕ
-  pub some : TookBlocks (take count jobs) before after
+pub record TookSome (number : ℕ) (jobs : List Job) (before after : Option (List ℕ)) : Type 0 where
+  pub done : List Job
+  pub rest : List Job
+  pub whole : jobs ≡ done ++ rest
+  pub took : TookBlocks number done before after
 
 -- a front of the blocks of the first of these jobs was taken
-pub record TookFront (jobs : List Job) (before after : Option (List ℕ)) : Type 0 where
-  pub count : ℕ
+pub record TookFront (number : ℕ) (jobs : List Job) (before after : Option (List ℕ)) : Type 0 where
+  pub done : List Job
+  pub rest : List Job
+  pub whole : jobs ≡ done ++ rest
   pub blocks : List ℕ
-  pub right : AreBlocks 1 (take count jobs) blocks
+  pub right : AreBlocks number done blocks
   pub size : ℕ
   pub within : size ≤ length blocks
   pub taken : after ≡ appended before (take size blocks)
 
--- what writing the blocks of these jobs has come to
-abbrev pub WroteJobs : List Job → Ending → Option (List ℕ) → Option (List ℕ) → Type 0
-WroteJobs jobs (Complete count) before after = (count ≡ length jobs) × TookBlocks jobs before after
-WroteJobs jobs Exhausted before after = TookSome jobs before after
-WroteJobs jobs Refused before after = ⊥
-WroteJobs jobs Unread before after = ⊥
+-- what was taken of these jobs' blocks where writing them stopped
+abbrev pub WroteUntil : Halt → ℕ → List Job → Option (List ℕ) → Option (List ℕ) → Type 0
+WroteUntil Unwritten number jobs before after = TookFront number jobs before after
+WroteUntil Memory number jobs before after = TookSome number jobs before after
 
--- what answering a text has come to
-abbrev pub WroteText : List ℕ → Ending → Option (List ℕ) → Option (List ℕ) → Type 0
-WroteText bytes (Complete count) before after = IsSome (plain_statements bytes) × WroteJobs (jobs_in bytes) (Complete count) before after
-WroteText bytes Exhausted before after = WroteJobs (jobs_in bytes) Exhausted before after
-WroteText bytes Refused before after = (plain_statements bytes ≡ None) × (after ≡ before)
-WroteText bytes Unread before after = ⊥
+-- the job of a cube behind these clauses
+abbrev pub of_cube : List (List ℕ) → List ℕ → List Job
+of_cube clauses cube = record { clauses = clauses; cube = cube } ∷ []
+
+-- The jobs of these statements are answered, where these clauses and so many jobs stood before them.
+pub record Answered (clauses_before : List (List ℕ)) (jobs_before : ℕ) (list : List Numbered) (clauses : List (List ℕ)) (jobs : ℕ) (before after : Option (List ℕ)) : Type 0 where
+  pub known : clauses ≡ clauses_after clauses_before (unnumbered list)
+  pub counted : jobs ≡ jobs_before + length (jobs_after clauses_before (unnumbered list))
+  pub took : TookBlocks (jobs_before + 1) (jobs_after clauses_before (unnumbered list)) before after
+
+-- where a run stops behind statements with this fault
+abbrev pub StoppedBy : Ending → Option Fault → ℕ → List Job → Option (List ℕ) → Option (List ℕ) → Type 0
+StoppedBy (Complete _) found number jobs before after = ⊥
+StoppedBy (Refused fault) found number jobs before after = (found ≡ Some fault) × TookBlocks number jobs before after
+StoppedBy Unread found number jobs before after = ⊥
+StoppedBy Exhausted found number jobs before after = TookSome number jobs before after
+
+-- A reader has read these bytes and found no wrong place, and all of their jobs are answered.
+pub record IsCaughtUp (reader : State) (clauses : List (List ℕ)) (jobs : ℕ) (bytes : List ℕ) (before now : Option (List ℕ)) : Type 0 where
+  pub read : HasRead reader bytes
+  pub right : wrong bytes false ≡ None
+  pub answered : Answered [] 0 (statements bytes false) clauses jobs before now
 
 -- what stands before the last line was taken
-pub record Showed (ending : Ending) (left_before left_after : Option (List ℕ)) (ended failed : Bool) (before after : Option (List ℕ)) : Type 0 where
+pub record Showed (ending : Ending) (reading : Reading) (before now : Option (List ℕ)) : Type 0 where
+  pub blocks : List ℕ
+  pub shown : AreShown ending reading blocks
+  pub taken : now ≡ appended before blocks
+
+-- and this is what the source gave
+pub record ShowedAll (ending : Ending) (left_before left_after : Option (List ℕ)) (ended failed : Bool) (before after : Option (List ℕ)) : Type 0 where
   pub bytes : List ℕ
   pub gave : left_before ≡ followed_by bytes left_after
-  pub blocks : List ℕ
-  pub shown : AreShown ending (record { bytes = bytes; ended = ended; failed = failed }) blocks
-  pub taken : after ≡ appended before blocks
+  pub showed : Showed ending (record { bytes = bytes; ended = ended; failed = failed }) before after
 
 -- a front of some blocks was taken
-pub record Broke (left_before left_after : Option (List ℕ)) (before after : Option (List ℕ)) : Type 0 where
+pub record Broke (left_before left_after : Option (List ℕ)) (ended : Bool) (before after : Option (List ℕ)) : Type 0 where
   pub bytes : List ℕ
   pub gave : left_before ≡ followed_by bytes left_after
-  pub front : TookFront (jobs_in bytes) before after
+  pub front : TookFront 1 (jobs_in bytes ended) before after
 
 -- a front of the last line was taken: of this ending, or of want of memory
 pub record TookFrontOfLine (ending : Ending) (before after : Option (List ℕ)) : Type 0 where

@@ -8,9 +8,11 @@
 mod alone;
 mod blocks;
 mod endings;
-mod input;
+mod pieces;
+mod queries;
 mod search;
 #[cfg(test)]
 mod tests;
 
-pub use alone::run_alone;
+pub use alone::{WORDS_REFUSED, run_alone};
+pub use endings::NO_MEMORY;

@@ -3,7 +3,8 @@ use Rattle.std.proofs.Common.{◌≡◌, ◌∙◌, ℕ, List, [], ◌∷◌, Bo
 use Rattle.std.specs.Prelude.{Option, Some, None, codes, option_and_then}
 use Rattle.std.specs.Str.{bytes_eq}
 use Rattle.sat_base.specs.Lit.{is_ascending}
-use Rattle.trace_text.specs.Line.{Line, Front, number_of, lit_of, until_zero, all_then_zero, fields_of, line_of_tokens, line_of, tokens_of}
+use Rattle.line_tokens.specs.Token.{Front, number_of, lit_of, until_zero, all_then_zero, tokens_of}
+use Rattle.trace_text.specs.Line.{Line, fields_of, line_of_tokens, line_of}
 
 pub no_lits : (id : ℕ) (tokens : List (List ℕ)) → ◌≡◌ {A = Option (Front ℕ)} None (until_zero lit_of tokens) → ◌≡◌ {A = Option Line} None (fields_of id tokens)
 unfolding fields_of

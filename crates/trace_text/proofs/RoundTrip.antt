@@ -1,175 +1,36 @@
 -- What is printed is read back.
-use Rattle.std.proofs.Common.{◌≡◌, ◌≢◌, ◌∙◌, ℕ, ◌+◌, ◌-◌, ◌*◌, ◌/◌, ◌%◌, ◌^◌, ◌<◌, ◌≤◌, List, [], ◌∷◌, ◌++◌, map, length, take, get_or, Bool, true, false, cond, refl, sym, subst, ap, inl, inr, append_assoc, append-nil, arith}
-use Rattle.std.specs.Prelude.{Option, Some, Result, Ok, Err, ◌==◌, ◌⊎◌, All, IsTrue, codes, decimal, option_and_then, nat_le, nat_lt}
-use Rattle.std.specs.Option.{option_map}
+use Rattle.std.proofs.Common.{◌≡◌, ◌∙◌, ℕ, ◌+◌, ◌-◌, ◌^◌, ◌<◌, ◌≤◌, List, [], ◌∷◌, ◌++◌, map, length, true, false, cond, refl, sym, subst, ap, inl, inr, append_assoc, append-nil, arith}
+use Rattle.std.specs.Prelude.{Some, Result, Ok, Err, ◌==◌, ◌⊎◌, All, IsTrue, decimal, nat_le, nat_lt}
 use Rattle.std.specs.List.{slice_split, flat_map, list_all}
-use Rattle.std.specs.Int.{IsInRange}
-use Rattle.std.specs.Str.{all_ascii_digits, bytes_eq}
-use Rattle.std.proofs.lemmas.Bool.{cases_Bool}
 use Rattle.std.proofs.lemmas.Bool.Decides.{nat_tests}
-use Rattle.std.proofs.lemmas.Fmt.{digits_decimal, decimal_is_IsNumeral, first_decimal}
-use Rattle.std.proofs.lemmas.List.Elements.{All-from_get_or, All-append, All-cons, All-nil, All-head, All-tail}
+use Rattle.std.proofs.lemmas.List.Elements.{All-append, All-cons, All-nil, All-head, All-tail}
 use Rattle.std.proofs.lemmas.List.Splits.{slice_split_at}
-use Rattle.std.proofs.lemmas.Slice.Eq.{bytes_eq-Decides}
-use Rattle.std.proofs.lemmas.Str.Parse.{numerals_by_value, tells_all_ascii_digits, tells_by_index}
 use Rattle.std.specs.Result.{MatchResult}
 use Rattle.std.proofs.lemmas.Bool.{and_from}
 use Rattle.std.proofs.lemmas.List.{length-append}
 use Rattle.sat_base.specs.declared.origins.Ref.{Ref}
 use Rattle.sat_base.specs.declared.origins.Ref.TheVariants.{Input, Shared, Own}
 use Rattle.trace_core.specs.declared.derivation.Step.{Step}
-use Rattle.sat_base.specs.Lit.{IsLit, IsLitSet, is_negative, variable, is_ascending}
-use Rattle.trace_text.specs.Line.{Line, Front, number_of, variable_of, lit_of, until_zero, all_then_zero, line_of, tokens_of, lit_text, hint_text, line_text}
-use Rattle.trace_text.proofs.Digits.{number_is, variable_is, lit_of-minus, lit_of-plain}
-use Rattle.trace_text.proofs.Tokens.{until_zero-more, each_then-more}
-use Rattle.trace_text.specs.Text.{number_of_hint, hint_of_number, IsHintBelow, CiteEarlier, line_of_step, steps_text, tag_of_hints, tags_with, step_said, and_others, steps_of_lines, lines_of, HaveExactTags, ArePrinted}
+use Rattle.sat_base.specs.Lit.{IsLit, IsLitSet, is_ascending}
+use Rattle.line_tokens.specs.Token.{number_of, all_then_zero, tokens_of, lines_of, lit_text}
+use Rattle.trace_text.specs.Line.{Line, line_of, hint_text, line_text}
+use Rattle.line_tokens.proofs.Back.{number_back, apart, lit_token, lit_text-token, lit_apart, next_token, lits_back, all_back}
+use Rattle.trace_text.specs.Text.{number_of_hint, hint_of_number, IsHintBelow, CiteEarlier, line_of_step, steps_text, tag_of_hints, tags_with, step_said, and_others, steps_of_lines, HaveExactTags, ArePrinted}
 use Rattle.trace_text.specs.declared.faults.TraceFault.{TraceFault}
 use Rattle.trace_text.specs.declared.faults.TraceFault.TheVariants.{Memory}
 use Rattle.trace_text.proofs.LineLemmas.{fields, line_fields}
 use Rattle.trace_text.proofs.ReadLemmas.{one_more}
 
--- ---- numbers
-
-pub number_back : (n : ℕ) → 0 < n → n < 2 ^ 64 → number_of (decimal n) ≡ Some n
-number_back n low high = sym (number_is (decimal n) n (digits_decimal (numerals_by_value (λ ds. all_ascii_digits ds ≡ true) tells_all_ascii_digits) n high) (first_decimal n low high) (omega arith) (sym (decimal_is_IsNumeral n high).1))
-
-pub variable_back : (v : ℕ) → 0 < v → v ≤ 8388607 → variable_of (decimal v) ≡ Some v
-variable_back v low high = sym (variable_is (decimal v) v (sym (number_back v low (omega arith))) high)
-
--- a byte below the digits is none of them
-apart : (n byte : ℕ) → n < 2 ^ 64 → byte < 48 → All (λ b. (b == byte) ≡ false) (decimal n)
-apart n byte small low = All-from_get_or (λ b. (b == byte) ≡ false) (decimal n) 0 (λ i within. differs (get_or (decimal n) i 0) (digits_decimal (numerals_by_value (λ ds. (i : ℕ) → i < length ds → IsInRange 48 57 (get_or ds i 0)) tells_by_index) n small i within).0)
-  where
-    differs : (b : ℕ) → 48 ≤ b → (b == byte) ≡ false
-    differs b high = grind (arith, nat_tests)
-
--- a token that begins with another byte isn't this one byte
-not_token : (token : List ℕ) (byte : ℕ) → get_or token 0 0 ≢ byte → bytes_eq token (byte ∷ []) ≡ false
-not_token token byte differs = by_truth (cases_Bool (bytes_eq token (byte ∷ [])))
-  where
-    by_truth : (bytes_eq token (byte ∷ []) ≡ true) ⊎ (bytes_eq token (byte ∷ []) ≡ false) → bytes_eq token (byte ∷ []) ≡ false
-    by_truth (inl same) = absurd (differs (ap (λ (t : List ℕ). get_or t 0 0) ((bytes_eq-Decides token (byte ∷ [])).0 same)))
-    by_truth (inr other) = other
-
-not_front : (token : List ℕ) (byte : ℕ) → get_or token 0 0 ≢ byte → bytes_eq (take 1 token) (byte ∷ []) ≡ false
-not_front [] byte differs = refl
-not_front (b ∷ token) byte differs = not_token (take 1 (b ∷ token)) byte differs
-
--- ---- literals
-
--- a literal without the space behind it
-lit_token : ℕ → List ℕ
-lit_token lit = cond (is_negative lit) (45 ∷ decimal (variable lit)) (decimal (variable lit))
-
-lit_text-token : (lit : ℕ) → lit_text lit ≡ lit_token lit ++ 32 ∷ []
-unfolding lit_token
-lit_text-token lit = by_sign (is_negative lit)
-  where
-    by_sign : (b : Bool) → cond b (codes "-" ++ decimal (variable lit) ++ codes " ") (decimal (variable lit) ++ codes " ") ≡ cond b (45 ∷ decimal (variable lit)) (decimal (variable lit)) ++ 32 ∷ []
-    by_sign true = refl
-    by_sign false = refl
-
-even_is : (r : ℕ) → r < 2 → (r == 1) ≡ false → r ≡ 0
-even_is r small other = grind (arith, nat_tests)
-
-lit_back : (lit : ℕ) → IsLit lit → lit_of (lit_token lit) ≡ Some lit
-unfolding lit_token
-lit_back lit is = by_sign (is_negative lit) refl
-  where
-    v : ℕ
-    v = lit / 2
-
-    low : 0 < lit / 2
-    low = let h = is.not_zero in omega arith
-
-    high : lit / 2 ≤ 8388607
-    high = let h = is.within in omega arith
-
-    by_sign : (b : Bool) → (lit % 2 == 1) ≡ b → lit_of (cond b (45 ∷ decimal (lit / 2)) (decimal (lit / 2))) ≡ Some lit
-    by_sign true odd =
-        let one : lit % 2 ≡ 1 = grind (arith, nat_tests) in
-        let whole : 2 * (lit / 2) + 1 ≡ lit = omega arith in
-        lit_of-minus (45 ∷ decimal (lit / 2)) (decimal (lit / 2)) refl refl ∙ ap (option_map (λ variable. 2 * variable + 1)) (variable_back (lit / 2) low high) ∙ ap Some whole
-    by_sign false even =
-        let none : lit % 2 ≡ 0 = even_is (lit % 2) (omega arith) even in
-        let whole : 2 * (lit / 2) ≡ lit = omega arith in
-        let first = first_decimal (lit / 2) low (omega (arith, high)) in
-        lit_of-plain (decimal (lit / 2)) (not_front (decimal (lit / 2)) 45 (λ same. absurd (omega (arith, first, same)))) ∙ ap (option_map (λ variable. 2 * variable)) (variable_back (lit / 2) low high) ∙ ap Some whole
-
-lit_not_zero : (lit : ℕ) → IsLit lit → bytes_eq (lit_token lit) (48 ∷ []) ≡ false
-unfolding lit_token
-lit_not_zero lit is = by_sign (is_negative lit)
-  where
-    by_sign : (b : Bool) → bytes_eq (cond b (45 ∷ decimal (lit / 2)) (decimal (lit / 2))) (48 ∷ []) ≡ false
-    by_sign true = not_token (45 ∷ decimal (lit / 2)) 48 (λ same. absurd (omega arith))
-    by_sign false =
-        let low : 0 < lit / 2 = let h = is.not_zero in omega arith in
-        let small : lit / 2 < 2 ^ 64 = let h = is.within in omega arith in
-        let first = first_decimal (lit / 2) low small in
-        not_token (decimal (lit / 2)) 48 (λ same. absurd (omega (arith, first, same)))
-
--- neither a space nor a line feed stands in a literal
-lit_apart : (lit byte : ℕ) → IsLit lit → byte < 45 → All (λ b. (b == byte) ≡ false) (lit_token lit)
-unfolding lit_token
-lit_apart lit byte is low = by_sign (is_negative lit)
-  where
-    small : lit / 2 < 2 ^ 64
-    small = let h = is.within in omega arith
-
-    minus : (45 == byte) ≡ false
-    minus = grind (arith, nat_tests)
-
-    by_sign : (b : Bool) → All (λ b. (b == byte) ≡ false) (cond b (45 ∷ decimal (lit / 2)) (decimal (lit / 2)))
-    by_sign true = All-cons (λ b. (b == byte) ≡ false) 45 (decimal (lit / 2)) minus (apart (lit / 2) byte small (omega arith))
-    by_sign false = apart (lit / 2) byte small (omega arith)
-
--- ---- tokens
-
-next_token : (token rest : List ℕ) → All (λ b. (b == 32) ≡ false) token → tokens_of (token ++ 32 ∷ rest) ≡ token ∷ tokens_of rest
-next_token token rest clean = slice_split_at (λ b. b == 32) token 32 rest clean refl
-
-lits_back : (lits rest : List ℕ) → All IsLit lits → until_zero lit_of (tokens_of (flat_map lit_text lits ++ (48 ∷ 32 ∷ rest))) ≡ Some (record { items = lits; rest = tokens_of rest })
-lits_back [] rest each = ap (until_zero lit_of) (next_token (48 ∷ []) rest (All-cons (λ b. (b == 32) ≡ false) 48 [] refl (All-nil (λ b. (b == 32) ≡ false)))) ∙ until_zero-more lit_of (48 ∷ []) (λ b. b == 32) rest
-lits_back (lit ∷ lits) rest each =
-    ap (λ text. until_zero lit_of (tokens_of text)) regrouped
-    ∙ ap (until_zero lit_of) (next_token (lit_token lit) (flat_map lit_text lits ++ (48 ∷ 32 ∷ rest)) (lit_apart lit 32 is_lit (omega arith)))
-    ∙ until_zero-more lit_of (lit_token lit) (λ b. b == 32) (flat_map lit_text lits ++ (48 ∷ 32 ∷ rest))
-    ∙ chosen (bytes_eq (lit_token lit) (48 ∷ [])) (lit_of (lit_token lit)) (until_zero lit_of (tokens_of (flat_map lit_text lits ++ (48 ∷ 32 ∷ rest)))) (lit_not_zero lit is_lit) (lit_back lit is_lit) (lits_back lits rest (All-tail IsLit lit lits each))
-  where
-    is_lit : IsLit lit
-    is_lit = All-head IsLit lit lits each
-
-    regrouped : (lit_text lit ++ flat_map lit_text lits) ++ (48 ∷ 32 ∷ rest) ≡ lit_token lit ++ 32 ∷ (flat_map lit_text lits ++ (48 ∷ 32 ∷ rest))
-    regrouped = ap (λ text. (text ++ flat_map lit_text lits) ++ (48 ∷ 32 ∷ rest)) (lit_text-token lit) ∙ ap (λ text. text ++ (48 ∷ 32 ∷ rest)) (append_assoc (lit_token lit) (32 ∷ []) (flat_map lit_text lits)) ∙ append_assoc (lit_token lit) (32 ∷ flat_map lit_text lits) (48 ∷ 32 ∷ rest)
-
-    chosen : (b : Bool) (o : Option ℕ) (front : Option (Front ℕ)) → b ≡ false → o ≡ Some lit → front ≡ Some (record { items = lits; rest = tokens_of rest }) →
-        cond {A = Option (Front ℕ)} b (Some (record { items = []; rest = tokens_of (flat_map lit_text lits ++ (48 ∷ 32 ∷ rest)) })) (option_and_then (λ item. option_map (λ front. record { items = item ∷ front.items; rest = front.rest }) front) o) ≡ Some (record { items = lit ∷ lits; rest = tokens_of rest })
-    chosen b o front other item others = rw (other, item, others) refl
-
 abbrev pub IsNumber : ℕ → Type 0
 IsNumber n = (0 < n) × (n < 2 ^ 64)
 
 hints_back : (hints : List ℕ) → All IsNumber hints → all_then_zero number_of (tokens_of (flat_map hint_text hints ++ (48 ∷ []))) ≡ Some hints
-hints_back [] each = refl
-hints_back (hint ∷ hints) each =
-    ap (λ text. all_then_zero number_of (tokens_of text)) regrouped
-    ∙ ap (all_then_zero number_of) (next_token (decimal hint) (flat_map hint_text hints ++ (48 ∷ [])) (apart hint 32 is_number.1 (omega arith)))
-    ∙ each_then-more number_of (decimal hint) (λ b. b == 32) (flat_map hint_text hints ++ (48 ∷ []))
-    ∙ chosen (number_of (decimal hint)) (all_then_zero number_of (tokens_of (flat_map hint_text hints ++ (48 ∷ [])))) (number_back hint is_number.0 is_number.1) (hints_back hints (All-tail IsNumber hint hints each))
-  where
-    is_number : IsNumber hint
-    is_number = All-head IsNumber hint hints each
-
-    regrouped : (hint_text hint ++ flat_map hint_text hints) ++ (48 ∷ []) ≡ decimal hint ++ 32 ∷ (flat_map hint_text hints ++ (48 ∷ []))
-    regrouped = ap (λ text. text ++ (48 ∷ [])) (append_assoc (decimal hint) (32 ∷ []) (flat_map hint_text hints)) ∙ append_assoc (decimal hint) (32 ∷ flat_map hint_text hints) (48 ∷ [])
-
-    chosen : (o : Option ℕ) (others : Option (List ℕ)) → o ≡ Some hint → others ≡ Some hints → option_and_then (λ item. option_map (λ items. item ∷ items) others) o ≡ Some (hint ∷ hints)
-    chosen o others item rest = rw (item, rest) refl
+hints_back hints each = all_back number_of hint_text decimal IsNumber (λ hint is. (refl, apart hint 32 is.1 (omega arith), number_back hint is.0 is.1)) hints each
 
 -- ---- a line
 
 -- the line without its line feed
-pub body : Line → List ℕ
+unfoldable pub body : Line → List ℕ
 body line = 116 ∷ 32 ∷ (decimal line.id ++ 32 ∷ (flat_map lit_text line.lits ++ 48 ∷ 32 ∷ (flat_map hint_text line.hints ++ 48 ∷ [])))
 
 abbrev pub IsWellFormed : Line → Type 0
@@ -190,11 +51,11 @@ line_back line formed =
 
 -- ---- the text
 
-all_flat : (f : ℕ → List ℕ) (P : ℕ → Type 0) (Q : ℕ → Type 0) → ((x : ℕ) → Q x → All P (f x)) → (xs : List ℕ) → All Q xs → All P (flat_map f xs)
+pub all_flat : (f : ℕ → List ℕ) (P : ℕ → Type 0) (Q : ℕ → Type 0) → ((x : ℕ) → Q x → All P (f x)) → (xs : List ℕ) → All Q xs → All P (flat_map f xs)
 all_flat f P Q each [] all = All-nil P
 all_flat f P Q each (x ∷ xs) all = All-append P (f x) (flat_map f xs) (each x (All-head Q x xs all)) (all_flat f P Q each xs (All-tail Q x xs all))
 
-clean_lit : (lit : ℕ) → IsLit lit → All (λ b. (b == 10) ≡ false) (lit_text lit)
+pub clean_lit : (lit : ℕ) → IsLit lit → All (λ b. (b == 10) ≡ false) (lit_text lit)
 clean_lit lit is = subst (All (λ b. (b == 10) ≡ false)) (sym (lit_text-token lit)) (All-append (λ b. (b == 10) ≡ false) (lit_token lit) (32 ∷ []) (lit_apart lit 10 is (omega arith)) (All-cons (λ b. (b == 10) ≡ false) 32 [] refl (All-nil (λ b. (b == 10) ≡ false))))
 
 clean_hint : (hint : ℕ) → IsNumber hint → All (λ b. (b == 10) ≡ false) (hint_text hint)
@@ -212,7 +73,7 @@ clean_body line formed =
     (All-cons (λ b. (b == 10) ≡ false) 48 [] refl (All-nil (λ b. (b == 10) ≡ false))))))))))
 
 -- the first line of a text, and the lines behind it
-first_line : (line : Line) (rest : List ℕ) → IsWellFormed line → slice_split (λ b. b == 10) (line_text line ++ rest) ≡ body line ∷ slice_split (λ b. b == 10) rest
+pub first_line : (line : Line) (rest : List ℕ) → IsWellFormed line → slice_split (λ b. b == 10) (line_text line ++ rest) ≡ body line ∷ slice_split (λ b. b == 10) rest
 first_line line rest formed =
     ap (λ text. slice_split (λ b. b == 10) (text ++ rest)) (line_text-body line) ∙ ap (slice_split (λ b. b == 10)) (append_assoc (body line) (10 ∷ []) rest)
     ∙ slice_split_at (λ b. b == 10) (body line) 10 rest (clean_body line formed) refl
@@ -252,7 +113,7 @@ in_order inputs before id (hint ∷ hints) is all =
     and_from (nat_lt (number_of_hint inputs hint) id) (list_all (λ h. nat_lt h id) (map (number_of_hint inputs) hints)) yes (in_order inputs before id hints is (All-tail (IsHintBelow inputs before) hint hints all))
 
 -- the line of a step says it
-said_back : (tags : List ℕ) (before : List Step) (step : Step) → All (IsHintBelow (length tags) (length before)) step.hints → IsLitSet step.clause → step.tag ≡ tag_of_hints (tags_with tags before) (map (number_of_hint (length tags)) step.hints) → length tags + (length before + 1) < 2 ^ 64
+pub said_back : (tags : List ℕ) (before : List Step) (step : Step) → All (IsHintBelow (length tags) (length before)) step.hints → IsLitSet step.clause → step.tag ≡ tag_of_hints (tags_with tags before) (map (number_of_hint (length tags)) step.hints) → length tags + (length before + 1) < 2 ^ 64
     → (step_said (length tags) (length before + 1) (tags_with tags before) (line_of (body (line_of_step (length tags) (length before) step))) ≡ Ok step) × IsWellFormed (line_of_step (length tags) (length before) step)
 said_back tags before step hints set tag fits = (ap (step_said (length tags) (length before + 1) (tags_with tags before)) (line_back line formed) ∙ chosen, formed)
   where

@@ -1,6 +1,6 @@
 -- Trace lines over so many inputs: how steps are numbered, and what a text of lines says.
 use Rattle.std.specs.Prelude.{ℕ, ◌+◌, ◌-◌, ◌<◌, ◌≤◌, nat_le, nat_lt, ◌==◌, ◌&&◌, if◌then◌else◌, Bool, Option, Some, None, Result, Ok, Err, List, [], ◌∷◌, ◌++◌, map, length, slice_index, All, ◌^◌, ◌≡◌}
-use Rattle.std.specs.List.{slice_split, list_all}
+use Rattle.std.specs.List.{list_all}
 use Rattle.sat_base.specs.Lit.{IsLitSet}
 use Rattle.sat_base.specs.declared.origins.Ref.{Ref}
 use Rattle.sat_base.specs.declared.origins.Ref.TheVariants.{Input, Shared, Own}
@@ -58,6 +58,10 @@ step_said inputs number tags (Some line) =
     then Ok (record { clause = line.lits; hints = map (hint_of_number inputs) line.hints; tag = tag_of_hints tags line.hints })
     else Err (Order number)
 
+-- what a line says behind these steps, where the tags are those of the inputs
+abbrev pub next_step : List ℕ → List Step → List ℕ → Result Step TraceFault
+next_step tags before line = step_said (length tags) (length before + 1) (tags_with tags before) (line_of line)
+
 abbrev pub and_others : Result Step TraceFault → (Step → Result (List Step) TraceFault) → Result (List Step) TraceFault
 and_others (Ok step) others = others step
 and_others (Err fault) others = Err fault
@@ -66,10 +70,7 @@ and_others (Err fault) others = Err fault
 abbrev pub steps_of_lines : List ℕ → List Step → List (List ℕ) → Result (List Step) TraceFault
 steps_of_lines tags before [] = Ok before
 steps_of_lines tags before (line ∷ []) = if length line == 0 then Ok before else Err (Form (length before + 1))
-steps_of_lines tags before (line ∷ next ∷ lines) = and_others (step_said (length tags) (length before + 1) (tags_with tags before) (line_of line)) (λ step. steps_of_lines tags (before ++ step ∷ []) (next ∷ lines))
-
-abbrev pub lines_of : List ℕ → List (List ℕ)
-lines_of text = slice_split (λ byte. byte == 10) text
+steps_of_lines tags before (line ∷ next ∷ lines) = and_others (next_step tags before line) (λ step. steps_of_lines tags (before ++ step ∷ []) (next ∷ lines))
 
 -- each step's tag is the greatest of the tags of its hints, over the tags of the inputs and of the steps before
 abbrev pub HaveExactTags : List ℕ → List Step → List Step → Type 0

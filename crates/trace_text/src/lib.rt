@@ -5,15 +5,13 @@
 //! was printed. This crate knows no search, no verdict and no stream.
 #![tactic(auto)]
 
-mod cuts;
 mod faults;
 mod lines;
-mod numbers;
 mod printing;
 mod reading;
 #[cfg(test)]
 mod tests;
 
 pub use faults::TraceFault;
-pub use printing::print;
-pub use reading::read;
+pub use printing::{print, print_onto};
+pub use reading::{read, read_step};

@@ -4,10 +4,10 @@ ghost use Rattle.std.specs.Prelude.{◌≡◌, IfOk, IfSome, IsTrue};
 ghost use Rattle.std.specs.Option.{option_map};
 ghost use Rattle.std.specs.Vec.{vec_len};
 ghost use Rattle.sat_base.specs.Lit.{is_ascending};
-ghost use Rattle.trace_text.specs.Line.{all_then_zero, fields_of, line_of, lit_of, number_of, tokens_of, until_zero, Line, Front};
+ghost use Rattle.line_tokens.specs.Token.{all_then_zero, number_of, tokens_of};
+ghost use Rattle.trace_text.specs.Line.{fields_of, line_of, Line};
 
-use crate::cuts::cut_at;
-use crate::numbers::{read_lit, read_number};
+use line_tokens::{cut_at, is_strictly_ascending, lits_before_zero, read_number};
 use sat_base::Lit;
 use std::alloc::{AllocError, Global};
 
@@ -17,25 +17,6 @@ pub(crate) struct TraceLine {
     pub(crate) id: u64,
     pub(crate) lits: Vec<Lit>,
     pub(crate) hints: Vec<u64>,
-}
-
-// The literals before the token `0`, and what stands behind it.
-fn read_lits(alloc: Global, tokens: &[u8]) -> Result<Option<(Vec<Lit>, &[u8])>, AllocError>
-    ensures { IfOk result (λ found. option_map (λ part. record { items = part.0.items; rest = tokens_of part.1.now }) found ≡ until_zero lit_of (tokens_of tokens.now)) }
-{
-    let mut lits = Vec::new(alloc);
-    let mut rest = tokens;
-    while let Some((token, more)) = cut_at(rest, b' ') {
-        if token == b"0".as_slice() {
-            return Ok(Some((lits, more)));
-        }
-        let Some(lit) = read_lit(token) else {
-            return Ok(None);
-        };
-        lits.push(lit)?;
-        rest = more;
-    }
-    Ok(None)
 }
 
 // Hints behind one another, and `0`.
@@ -57,26 +38,12 @@ fn read_hints(alloc: Global, tokens: &[u8]) -> Result<Option<Vec<u64>>, AllocErr
     Ok(Some(hints))
 }
 
-// Whether each literal is greater than the one before it.
-fn is_strictly_ascending(lits: &[Lit]) -> bool
-    ensures { result ≡ is_ascending lits.now }
-{
-    let mut bound = 0;
-    for lit in lits {
-        if lit.code() <= bound {
-            return false;
-        }
-        bound = lit.code();
-    }
-    true
-}
-
 // The literals and hints behind an identifier.
 fn read_fields(alloc: Global, id: u64, tokens: &[u8]) -> Result<Option<TraceLine>, AllocError>
     ensures value { IfOk result (λ found. option_map (λ line. record { id = line.id; lits = line.lits.items; hints = line.hints.items }) found ≡ fields_of id (tokens_of tokens.now)) }
     ensures ascending { IfOk result (λ found. IfSome found (λ line. IsTrue (is_ascending line.lits.items))) }
 {
-    let Some((lits, rest)) = read_lits(alloc, tokens)? else {
+    let Some((lits, rest)) = lits_before_zero(alloc, tokens)? else {
         return Ok(None);
     };
     if !is_strictly_ascending(&lits) {

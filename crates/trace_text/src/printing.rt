@@ -4,41 +4,14 @@ ghost use Rattle.std.specs.Prelude.{◌≡◌, ◌+◌, ◌<◌, ◌≤◌, ◌^
 ghost use Rattle.std.specs.List.{flat_map};
 ghost use Rattle.sat_base.specs.Lit.{IsLitSet};
 ghost use Rattle.trace_core.specs.declared.derivation.Step.{Step};
-ghost use Rattle.trace_text.specs.Line.{lit_text, hint_text, line_text, Line};
+ghost use Rattle.line_tokens.specs.Token.{lit_text};
+ghost use Rattle.trace_text.specs.Line.{hint_text, line_text, Line};
 ghost use Rattle.trace_text.specs.Text.{ArePrinted, CiteEarlier, number_of_hint, steps_text};
 
-use itoa::Buffer;
-use sat_base::{Lit, Ref};
+use line_tokens::{print_lits, print_number};
+use sat_base::Ref;
 use std::alloc::{AllocError, Global};
 use trace_core::Step;
-
-// Adds a number.
-fn print_number(out: &mut Vec<u8>, number: u64) -> Result<(), AllocError>
-    ensures { OnOk result (out.new.items ≡ out.old.items ++ decimal number) }
-{
-    let mut buffer = Buffer::new();
-    out.extend_from_slice(buffer.format(number).as_bytes())
-}
-
-// Adds literals, each with a space behind it.
-fn print_lits(out: &mut Vec<u8>, lits: &[Lit]) -> Result<(), AllocError>
-    ensures { OnOk result (out.new.items ≡ out.old.items ++ flat_map lit_text lits.now) }
-{
-    for lit in lits {
-        print_lit(out, *lit)?;
-    }
-    Ok(())
-}
-
-fn print_lit(out: &mut Vec<u8>, lit: Lit) -> Result<(), AllocError>
-    ensures { OnOk result (out.new.items ≡ out.old.items ++ lit_text lit) }
-{
-    if lit.is_negative() {
-        out.extend_from_slice(b"-")?;
-    }
-    print_number(out, lit.var() as u64)?;
-    out.extend_from_slice(b" ")
-}
 
 // The number of a hint of a step that stands behind so many inputs.
 fn number_of(inputs: u64, hint: Ref) -> u64
@@ -78,17 +51,16 @@ fn print_step(out: &mut Vec<u8>, inputs: u64, id: u64, step: &Step) -> Result<()
     out.extend_from_slice(b"0\n")
 }
 
-// The steps as lines.
-fn print_lines(alloc: Global, inputs: u64, steps: &[Step]) -> Result<Vec<u8>, AllocError>
+// Adds the lines of the steps.
+fn print_lines(out: &mut Vec<u8>, inputs: u64, steps: &[Step]) -> Result<(), AllocError>
     requires inputs { inputs ≤ 16777216 }
     requires earlier { CiteEarlier inputs 0 steps.now }
-    ensures { IfOk result (λ text. text.items ≡ steps_text inputs 0 steps.now) }
+    ensures { OnOk result (out.new.items ≡ out.old.items ++ steps_text inputs 0 steps.now) }
 {
-    let mut out = Vec::new(alloc);
     for (index, step) in steps.iter().enumerate() {
-        print_step(&mut out, inputs, inputs + (index as u64 + 1), step)?;
+        print_step(out, inputs, inputs + (index as u64 + 1), step)?;
     }
-    Ok(out)
+    Ok(())
 }
 
 // Each clause is a set of literals. Its type keeps that, and a proof sees it at a call on the clause.
@@ -100,6 +72,18 @@ fn look_at(steps: &[Step])
     }
 }
 
+/// Adds the lines that `print` writes to a text.
+pub fn print_onto(out: &mut Vec<u8>, inputs: u64, steps: &[Step]) -> Result<(), AllocError>
+    requires inputs { inputs ≤ 16777216 }
+    requires earlier { CiteEarlier inputs 0 steps.now }
+    ensures added { OnOk result (out.new.items ≡ out.old.items ++ steps_text inputs 0 steps.now) }
+    ensures printed { ArePrinted inputs steps.now (steps_text inputs 0 steps.now) }
+{
+    look_at(steps);
+    let _ = steps.len();
+    print_lines(out, inputs, steps)
+}
+
 /// The steps as trace lines: for the i-th step, counted from 1, the line `t ID LITS 0 HINTS 0` with `inputs`
 /// plus i as ID, the literals of its clause, and the numbers of its hints, an input's its own and the i-th
 /// step's `inputs` plus i.
@@ -108,7 +92,7 @@ pub fn print(alloc: Global, inputs: u64, steps: &[Step]) -> Result<Vec<u8>, Allo
     requires earlier { CiteEarlier inputs 0 steps.now }
     ensures { IfOk result (λ text. ArePrinted inputs steps.now text.items) }
 {
-    look_at(steps);
-    let text = print_lines(alloc, inputs, steps)?;
+    let mut text = Vec::new(alloc);
+    print_onto(&mut text, inputs, steps)?;
     Ok(text)
 }

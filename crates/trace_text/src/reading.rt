@@ -3,12 +3,13 @@
 ghost use Rattle.std.specs.Prelude.{List, ◌≡◌, ◌<◌, ◌≤◌, ◌^◌, ◌+◌, ◌-◌, ◌⊎◌, [], ◌∷◌, ◌++◌, length, map, nat_lt, slice_index, IfOk, OnOk, MatchResult, Ok, Err};
 ghost use Rattle.std.specs.List.{list_all};
 ghost use Rattle.trace_core.specs.declared.derivation.Step.{Step};
-ghost use Rattle.trace_text.specs.Line.{Line, line_of};
-ghost use Rattle.trace_text.specs.Text.{ArePrinted, HaveExactTags, hint_of_number, is_in_order, lines_of, step_said, steps_of_lines, tag_of_hints};
+ghost use Rattle.line_tokens.specs.Token.{lines_of};
+ghost use Rattle.trace_text.specs.Line.{Line};
+ghost use Rattle.trace_text.specs.Text.{ArePrinted, HaveExactTags, hint_of_number, is_in_order, next_step, steps_of_lines, tag_of_hints, tags_with};
 
 use crate::TraceFault;
-use crate::cuts::cut_at;
 use crate::lines::{TraceLine, read_line};
+use line_tokens::cut_at;
 use sat_base::{Clause, Ref};
 use std::alloc::{AllocError, Global};
 use trace_core::{Hints, Step};
@@ -51,37 +52,43 @@ fn hint_of(inputs: u32, number: u64) -> Ref
     }
 }
 
-// The tag of that number, 0 where there is none.
-fn tag_at(tags: &[u32], number: u64) -> u32
-    ensures { result ≡ slice_index tags.now (number - 1) }
+// The tag of the input or the step of that number, 0 where there is none.
+fn tag_at(tags: &[u32], steps: &[Step], number: u64) -> u32
+    ensures { result ≡ slice_index (tags_with tags.now steps.now) (number - 1) }
 {
     let index = number.saturating_sub(1) as usize;
-    if index < tags.len() { tags[index] } else { 0 }
+    if index < tags.len() {
+        return tags[index];
+    }
+    let own = index - tags.len();
+    if own < steps.len() { steps[own].tag } else { 0 }
 }
 
 // The greatest of the tags of these numbers.
-fn greatest_tag(tags: &[u32], numbers: &[u64]) -> u32
-    ensures { result ≡ tag_of_hints tags.now numbers.now }
+fn greatest_tag(tags: &[u32], steps: &[Step], numbers: &[u64]) -> u32
+    ensures { result ≡ tag_of_hints (tags_with tags.now steps.now) numbers.now }
 {
     let mut most = 0;
     for number in numbers {
-        most = most.max(tag_at(tags, *number));
+        most = most.max(tag_at(tags, steps, *number));
     }
     most
 }
 
-// What the next line says, which has that number among the lines. The tags are those of the inputs and of
-// the steps before it.
-fn read_step(
+/// The step that a line without its line feed says behind these steps, with its exact tag, where `tags` are
+/// those of the inputs. The line is `t ID LITS 0 HINTS 0` as `read` describes it. A fault names the line by
+/// its number among the lines of the steps.
+pub fn read_step(
     alloc: Global,
-    inputs: u32,
     tags: &[u32],
-    number: u64,
+    steps: &[Step],
     line: &[u8],
 ) -> Result<Step, TraceFault>
-    requires { inputs + number < 2 ^ 64 }
-    ensures { MatchResult result (λ step. step_said inputs number tags.now (line_of line.now) ≡ Ok step) (λ fault. (fault ≡ TraceFault.Memory) ⊎ (step_said inputs number tags.now (line_of line.now) ≡ Err fault)) }
+    requires { length tags.now ≤ 4294967295 }
+    ensures { MatchResult result (λ step. next_step tags.now steps.now line.now ≡ Ok step) (λ fault. (fault ≡ TraceFault.Memory) ⊎ (next_step tags.now steps.now line.now ≡ Err fault)) }
 {
+    let inputs = tags.len() as u32;
+    let number = steps.len() as u64 + 1;
     let Some(found) = read_line(alloc, line)? else {
         return Err(TraceFault::Form(number));
     };
@@ -89,7 +96,7 @@ fn read_step(
         return Err(TraceFault::Order(number));
     }
     let hints = hints_of(alloc, inputs, &found.hints)?;
-    let tag = greatest_tag(tags, &found.hints);
+    let tag = greatest_tag(tags, steps, &found.hints);
     Ok(Step {
         clause: Clause::of_ascending(found.lits),
         hints: Hints::of(hints),
@@ -97,12 +104,9 @@ fn read_step(
     })
 }
 
-// Adds a step, and its tag behind the tags of the inputs and the steps before it.
-fn add(tags: &mut Vec<u32>, steps: &mut Vec<Step>, step: Step) -> Result<(), AllocError>
-    ensures tags { OnOk result (tags.new.items ≡ tags.old.items ++ step.tag ∷ []) }
-    ensures steps { OnOk result (steps.new.items ≡ steps.old.items ++ step ∷ []) }
+fn add(steps: &mut Vec<Step>, step: Step) -> Result<(), AllocError>
+    ensures { OnOk result (steps.new.items ≡ steps.old.items ++ step ∷ []) }
 {
-    tags.push(step.tag)?;
     steps.push(step)?;
     Ok(())
 }
@@ -112,13 +116,11 @@ fn read_lines(alloc: Global, tags: &[u32], bytes: &[u8]) -> Result<Vec<Step>, Tr
     requires { length tags.now ≤ 4294967295 }
     ensures { MatchResult result (λ steps. steps_of_lines tags.now [] (lines_of bytes.now) ≡ Ok steps.items) (λ fault. (fault ≡ TraceFault.Memory) ⊎ (steps_of_lines tags.now [] (lines_of bytes.now) ≡ Err fault)) }
 {
-    let inputs = tags.len() as u32;
-    let mut known = Vec::from_slice(alloc, tags)?;
     let mut steps = Vec::new(alloc);
     let mut rest = bytes;
     while let Some((line, more)) = cut_at(rest, b'\n') {
-        let step = read_step(alloc, inputs, &known, steps.len() as u64 + 1, line)?;
-        add(&mut known, &mut steps, step)?;
+        let step = read_step(alloc, tags, &steps, line)?;
+        add(&mut steps, step)?;
         rest = more;
     }
     if !rest.is_empty() {

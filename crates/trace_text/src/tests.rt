@@ -10,75 +10,87 @@ use std::alloc::Global;
 use std::test::Fail;
 use trace_core::{Hints, Step};
 
-// Texts over two inputs, and the fault of each, none where it is a trace.
-const TEXTS: [(&str, &[u8], Option<TraceFault>); 24] = [
-    ("one line", b"t 3 2 0 1 2 0\n", None),
-    ("no lines", b"", None),
-    ("no literals", b"t 3 0 1 2 0\n", None),
-    ("no hints", b"t 3 3 -3 0 0\n", None),
-    ("an earlier step", b"t 3 2 0 1 2 0\nt 4 0 3 0\n", None),
+// Texts over two inputs, and how many steps each has, or its fault.
+const TEXTS: [(&str, &[u8], Result<usize, TraceFault>); 24] = [
+    ("one line", b"t 3 2 0 1 2 0\n", Ok(1)),
+    ("no lines", b"", Ok(0)),
+    ("no literals", b"t 3 0 1 2 0\n", Ok(1)),
+    ("no hints", b"t 3 3 -3 0 0\n", Ok(1)),
+    ("an earlier step", b"t 3 2 0 1 2 0\nt 4 0 3 0\n", Ok(2)),
     (
         "an ID that isn't the next",
         b"t 4 2 0 1 2 0\n",
-        Some(Order(1)),
+        Err(Order(1)),
     ),
     (
         "an ID again",
         b"t 3 2 0 1 2 0\nt 3 2 0 1 0\n",
-        Some(Order(2)),
+        Err(Order(2)),
     ),
-    ("a hint equal to its ID", b"t 3 2 0 1 3 0\n", Some(Order(1))),
-    (
-        "a later step",
-        b"t 3 2 0 1 4 0\nt 4 0 1 0\n",
-        Some(Order(1)),
-    ),
+    ("a hint equal to its ID", b"t 3 2 0 1 3 0\n", Err(Order(1))),
+    ("a later step", b"t 3 2 0 1 4 0\nt 4 0 1 0\n", Err(Order(1))),
     (
         "an ID of 20 digits",
         b"t 18446744073709551615 0 1 0\n",
-        Some(Order(1)),
+        Err(Order(1)),
     ),
     (
         "a number of 30 digits",
         b"t 100000000000000000000000000003 0 1 0\n",
-        Some(Form(1)),
+        Err(Form(1)),
     ),
     (
         "an ID past the greatest",
         b"t 18446744073709551616 0 1 0\n",
-        Some(Form(1)),
+        Err(Form(1)),
     ),
-    ("no line feed", b"t 3 2 0 1 2 0", Some(Form(1))),
+    ("no line feed", b"t 3 2 0 1 2 0", Err(Form(1))),
     (
         "a second line without line feed",
         b"t 3 0 1 0\nt 4 0 1 0",
-        Some(Form(2)),
+        Err(Form(2)),
     ),
-    ("two spaces", b"t 3  2 0 1 2 0\n", Some(Form(1))),
-    ("a space at the end", b"t 3 2 0 1 2 0 \n", Some(Form(1))),
-    ("a missing 0", b"t 3 2 0 1 2\n", Some(Form(1))),
-    ("both missing", b"t 3 2\n", Some(Form(1))),
-    ("a leading zero", b"t 03 2 0 1 2 0\n", Some(Form(1))),
-    ("-0", b"t 3 -0 0 1 2 0\n", Some(Form(1))),
-    ("descending literals", b"t 3 3 2 0 1 2 0\n", Some(Form(1))),
+    ("two spaces", b"t 3  2 0 1 2 0\n", Err(Form(1))),
+    ("a space at the end", b"t 3 2 0 1 2 0 \n", Err(Form(1))),
+    ("a missing 0", b"t 3 2 0 1 2\n", Err(Form(1))),
+    ("both missing", b"t 3 2\n", Err(Form(1))),
+    ("a leading zero", b"t 03 2 0 1 2 0\n", Err(Form(1))),
+    ("-0", b"t 3 -0 0 1 2 0\n", Err(Form(1))),
+    ("descending literals", b"t 3 3 2 0 1 2 0\n", Err(Form(1))),
     (
         "a variable past the greatest",
         b"t 3 8388608 0 1 2 0\n",
-        Some(Form(1)),
+        Err(Form(1)),
     ),
-    ("another letter", b"d 3 2 0 1 2 0\n", Some(Form(1))),
-    ("an empty line", b"t 3 0 1 0\n\n", Some(Form(2))),
+    ("another letter", b"d 3 2 0 1 2 0\n", Err(Form(1))),
+    ("an empty line", b"t 3 0 1 0\n\n", Err(Form(2))),
 ];
 
 #[test]
 fn texts_and_their_faults(rt: HostRuntime) -> Result<(), Fail> {
-    for (what, text, fault) in TEXTS.iter() {
+    for (what, text, expected) in TEXTS.iter() {
         let found = match read(rt.alloc(), &[1, 1], text) {
-            Ok(_) => None,
-            Err(found) => Some(found),
+            Ok(steps) => Ok(steps.len()),
+            Err(fault) => Err(fault),
         };
-        assert!(rt; found == *fault, "{what}");
+        assert!(rt; found == *expected, "{what}");
     }
+    Ok(())
+}
+
+#[test]
+fn a_line_is_read_as_its_step(rt: HostRuntime) -> Result<(), Fail> {
+    let steps = match read(rt.alloc(), &[1, 1], b"t 3 2 0 1 2 0\n") {
+        Ok(steps) => steps,
+        Err(_) => return Err(Fail::from("a trace")),
+    };
+    assert_eq!(rt; steps.len(), 1);
+    assert_eq!(rt;
+        steps[0].clause.lits(),
+        [Lit::of(2).ok_or("no literal")?].as_slice()
+    );
+    assert_eq!(rt; steps[0].hints.items(), [Input(1), Input(2)].as_slice());
+    assert_eq!(rt; steps[0].tag, 1);
     Ok(())
 }
 

@@ -1,5 +1,5 @@
 use Rattle.std.proofs.Common.{rules}
-use Rattle.trace_text.specs.Line.{tokens_of}
+use Rattle.line_tokens.specs.Token.{tokens_of}
 use Rattle.trace_text.proofs.LineLemmas.{no_lits, falling_lits, no_hints, fields}
 use Rattle.trace_text.proofs.lines.read_fields.Goals as goal
 

@@ -1,6 +1,6 @@
 use Rattle.std.proofs.Common.{◌==◌, rules}
-use Rattle.trace_text.specs.Line.{number_of, tokens_of, all_then_zero}
-use Rattle.trace_text.proofs.Tokens.{judged, refused}
+use Rattle.line_tokens.specs.Token.{number_of, tokens_of, all_then_zero}
+use Rattle.line_tokens.proofs.Tokens.{judged, refused}
 use Rattle.trace_text.proofs.lines.read_hints.Goals as goal
 
 pub returns-in_default-read_number : goal.returns-in_default-read_number

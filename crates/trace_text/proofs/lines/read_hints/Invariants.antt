@@ -1,6 +1,6 @@
 use Rattle.std.proofs.Common.{◌≡◌, length}
-use Rattle.trace_text.specs.Line.{all_then_zero, number_of, tokens_of}
-use Rattle.trace_text.proofs.Tokens.{with_front}
+use Rattle.line_tokens.specs.Token.{all_then_zero, number_of, tokens_of}
+use Rattle.line_tokens.proofs.Tokens.{with_front}
 use Rattle.trace_text.proofs.lines.read_hints.Given as goal
 
 abbrev pub invariant-loop-token : goal.invariant-loop-token

@@ -4,6 +4,6 @@ use Rattle.trace_text.proofs.printing.print_lines.Given as goal
 
 abbrev pub invariant-loop-index : goal.invariant-loop-index
 invariant-loop-index l = record {
-  text : l.out.items ++ steps_text l.inputs l.index (drop l.index l.steps) ≡ steps_text l.inputs 0 l.steps;
+  text : l.out.items ++ steps_text l.inputs l.index (drop l.index l.steps) ≡ l.fn.out.items ++ steps_text l.inputs 0 l.steps;
   earlier : CiteEarlier l.inputs l.index (drop l.index l.steps);
 }

@@ -1,0 +1,15 @@
+pub mod Readings
+pub mod Verdicts
+pub mod Opened
+pub mod Tallies
+pub mod Indexed
+pub mod Changes
+pub mod Keeping
+pub mod Looked
+pub mod Ranked
+pub mod Firsts
+pub mod Ended
+pub mod Attempted
+pub mod Endings
+pub mod Ready
+pub mod Takes

@@ -1,0 +1,97 @@
+-- The index of a board: readings of the journal.
+use Rattle.std.specs.Prelude.{◌||◌, nat_le, ◌≡◌, ℕ, suc, ◌+◌, ◌-◌, ◌≤◌, Option, None, Some, IsSome, is_some, List, [], ◌∷◌, map, length, filter_map, count_by, All, slice_get, option_and_then, if◌then◌else◌}
+use Rattle.std.specs.Arc.{arc_value}
+use Rattle.trace_core.specs.Known.{item_at}
+use Rattle.entry_core.specs.declared.answers.Verdict.{Verdict}
+use Rattle.entry_core.specs.declared.answers.Verdict.TheVariants as verdict
+use Rattle.entry_core.specs.declared.entries.Entry.{Entry}
+use Rattle.entry_core.specs.declared.entries.Event.{Event}
+use Rattle.entry_core.specs.declared.entries.Event.TheVariants as event
+use Rattle.entry_core.specs.declared.rules.Rules.{Rules}
+use Rattle.entry_core.specs.Journal.{segments, jobs, inputs, literals, packets, is_closed, closing_place}
+use Rattle.entry_core.specs.Attempts.{Attempt, attempts, ended, is_open, open_attempts, spent_by, spent_attempts}
+use Rattle.entry_core.specs.Settled.{decisions, starved, settled, settled_jobs}
+use Rattle.board_core.specs.declared.index.Ending.{Ending}
+use Rattle.board_core.specs.declared.index.Ending.TheVariants as ending
+use Rattle.board_core.specs.declared.index.JobState.{JobState}
+use Rattle.board_core.specs.declared.index.Index.{Index}
+use Rattle.tournament.specs.declared.rank.Rank.{Rank}
+
+-- the answer of a `Decided` entry
+abbrev pub answered_by : Event → Option Verdict
+answered_by (event.Decided number given) = Some (verdict.Answered given)
+answered_by _ = None
+
+abbrev pub verdict_in : List Entry → Ending → Option Verdict
+verdict_in journal (ending.Answered place) = option_and_then (λ entry. answered_by entry.event) (slice_get journal place)
+verdict_in journal ending.Cancelled = Some (verdict.Cancelled 0)
+verdict_in journal ending.Spent = Some verdict.Spent
+verdict_in journal ending.Starved = Some verdict.Starved
+
+-- whether and how a job was settled
+abbrev pub IsEndingOf : List Entry → Option Ending → Option Verdict → Type 0
+IsEndingOf journal None given = given ≡ None
+IsEndingOf journal (Some how) given = IsSome given × (verdict_in journal how ≡ given)
+
+-- where a job stands that was just added
+abbrev pub new_job : JobState
+new_job = record { open_now = 0; spent = 0; ending = None }
+
+abbrev pub or_new : Option JobState → JobState
+or_new None = new_job
+or_new (Some state) = state
+
+-- where the job of that number stands, which may come later
+abbrev pub state_at : List JobState → ℕ → JobState
+state_at states job = or_new (item_at states job)
+
+pub record IsStateOf (rules : Rules) (journal : List Entry) (job : ℕ) (state : JobState) : Type 0 where
+  pub open_now : state.open_now ≡ open_attempts journal job
+  pub spent : state.spent ≡ spent_attempts journal job
+  pub ending : IsEndingOf journal state.ending (settled rules journal job)
+
+abbrev pub AreNumberedFrom : ℕ → List Attempt → Type 0
+AreNumberedFrom number [] = Unit {0}
+AreNumberedFrom number (attempt ∷ rest) = (attempt.number ≡ number) × AreNumberedFrom (suc number) rest
+
+-- Attempts have their places as their numbers, and what is said of an attempt comes after it was begun.
+pub record IsOrderly (journal : List Entry) : Type 0 where
+  pub numbered : AreNumberedFrom 1 (attempts journal)
+  pub ended : All (λ number. number ≤ length (attempts journal)) (ended journal)
+  pub spents : All (λ number. number ≤ length (attempts journal)) (filter_map (λ entry. spent_by entry.event) journal)
+  pub decided : All (λ decision. decision.number ≤ length (attempts journal)) (decisions journal)
+  pub starved : All (λ number. number ≤ length (attempts journal)) (starved journal)
+
+-- The index is what the journal says.
+pub record IsIndexOf (rules : Rules) (journal : List Entry) (index : Index) : Type 0 where
+  pub jobs : length index.jobs.items ≡ jobs journal
+  pub states : (job : ℕ) → IsStateOf rules journal job (state_at index.jobs.items job)
+  pub segments : map arc_value index.segments.items ≡ segments journal
+  pub packets : map arc_value index.packets.items ≡ packets journal
+  pub begun : map (λ attempt. attempt.job) (attempts journal) ≡ index.attempts.items
+  pub place : index.closed ≡ closing_place journal
+  pub closed : is_some index.closed ≡ is_closed journal
+  pub clauses : index.clauses ≡ length (inputs journal)
+  pub literals : index.literals ≡ literals journal
+  pub settled : index.settled ≡ settled_jobs rules journal
+  pub open_now : index.open_now ≡ count_by (is_open journal) (attempts journal)
+
+-- the entries that may still come without memory: one for each unsettled job, each open attempt, and the closing
+abbrev pub room : Index → ℕ
+room index = (length index.jobs.items - index.settled) + index.open_now + (if is_some index.closed then 0 else 1)
+
+-- counts that can be added
+pub record IsCountable (index : Index) : Type 0 where
+  pub settled : index.settled ≤ length index.jobs.items
+  pub jobs : length index.jobs.items ≤ 1048576
+  pub open_now : index.open_now ≤ 4294967295
+
+-- where a job stands among those that wait: it isn't settled, and its open and spent attempts are fewer than it may have
+abbrev pub rank_of : ℕ → ℕ → JobState → Option Rank
+rank_of most job state =
+    if is_some state.ending || nat_le most (state.open_now + state.spent) then None else Some (record { open_now = state.open_now; job = job })
+
+-- the ranks of the jobs, the first of which has this number
+abbrev pub ranks_from : ℕ → ℕ → List JobState → List (Option Rank)
+ranks_from most job [] = []
+ranks_from most job (state ∷ rest) = rank_of most job state ∷ ranks_from most (suc job) rest

@@ -1,0 +1,4 @@
+pub mod State
+pub mod Index
+pub mod Kept
+pub mod Replies

@@ -1,0 +1,173 @@
+//! The calls that end an attempt. None of them takes memory.
+
+ghost use Rattle.std.specs.Prelude.{◌≡◌, None, IsSome, is_some, OnOk, OnErr, IfErr, nat_le, if◌then◌else◌, Some};
+ghost use Rattle.std.specs.Arc.{arc_value};
+ghost use Rattle.entry_core.specs.Settled.{settled};
+ghost use Rattle.entry_core.specs.Right.{IsRightAnswer, IsSpentFor};
+ghost use Rattle.entry_core.specs.declared.entries.Event.TheVariants as event;
+ghost use Rattle.board_core.specs.declared.index.Ending.TheVariants as ending;
+ghost use Rattle.board_core.specs.State.{entered};
+ghost use Rattle.board_core.specs.Replies.{IsOwn, HasOutcome, job_at};
+
+use crate::answers::outcome_in;
+use crate::board::Board;
+use crate::faults::Late;
+use crate::index::{Ending, JobState, put, state};
+use entry_core::{Answer, Clauses, Entry, Event};
+use std::sync::Arc;
+
+impl Board {
+    /// Ends an attempt that used up its budget on these clauses.
+    pub fn spend(&mut self, caller: u32, attempt: u32, learnt: Arc<Clauses>) -> Result<(), Late>
+        requires own { IsOwn self.old caller attempt }
+        requires spent { IsSpentFor self.old.journal (job_at self.old attempt) self.old.rules.conflicts (arc_value learnt) }
+        ensures ok { OnOk result (self.new ≡ entered self.old caller (event.Spent attempt learnt)) }
+        ensures in_time { OnOk result (settled self.old.rules self.old.journal (job_at self.old attempt) ≡ None) }
+        ensures late { IfErr result (λ late. HasOutcome self.old (job_at self.old attempt) late.0) }
+        ensures err { OnErr result (self.new ≡ self.old) }
+    {
+        let job = self.index.attempts[attempt as usize - 1];
+        let before = state(&self.index.jobs, job);
+        if let Some(how) = before.ending {
+            return Err(Late(outcome_in(&self.journal, how)));
+        }
+        self.journal.push_reserved(Entry {
+            caller,
+            event: Event::Spent { attempt, learnt },
+        });
+        let spent = before.spent + 1;
+        let ending = ending_by_budget(spent, self.rules.attempts);
+        let after = JobState {
+            open_now: before.open_now - 1,
+            spent,
+            ending,
+        };
+        put(
+            &mut self.index.jobs,
+            &mut self.index.waiting,
+            self.rules.attempts,
+            job,
+            after,
+        );
+        self.index.open_now -= 1;
+        self.index.settled += newly_settled(ending);
+        Ok(())
+    }
+
+    /// Ends an attempt with an answer.
+    pub fn decide(&mut self, caller: u32, attempt: u32, answer: Arc<Answer>) -> Result<(), Late>
+        requires own { IsOwn self.old caller attempt }
+        requires right { IsRightAnswer self.old.journal (job_at self.old attempt) (arc_value answer) }
+        ensures ok { OnOk result (self.new ≡ entered self.old caller (event.Decided attempt answer)) }
+        ensures in_time { OnOk result (settled self.old.rules self.old.journal (job_at self.old attempt) ≡ None) }
+        ensures late { IfErr result (λ late. HasOutcome self.old (job_at self.old attempt) late.0) }
+        ensures err { OnErr result (self.new ≡ self.old) }
+    {
+        let job = self.index.attempts[attempt as usize - 1];
+        let before = state(&self.index.jobs, job);
+        let place = self.journal.len();
+        if let Some(how) = before.ending {
+            return Err(Late(outcome_in(&self.journal, how)));
+        }
+        self.journal.push_reserved(Entry {
+            caller,
+            event: Event::Decided { attempt, answer },
+        });
+        let after = JobState {
+            open_now: before.open_now - 1,
+            ending: Some(Ending::Answered(place)),
+            ..before
+        };
+        put(
+            &mut self.index.jobs,
+            &mut self.index.waiting,
+            self.rules.attempts,
+            job,
+            after,
+        );
+        self.index.open_now -= 1;
+        self.index.settled += 1;
+        Ok(())
+    }
+
+    /// Ends an attempt that found no memory.
+    pub fn starve(&mut self, caller: u32, attempt: u32) -> Result<(), Late>
+        requires own { IsOwn self.old caller attempt }
+        ensures ok { OnOk result (self.new ≡ entered self.old caller (event.Starved attempt)) }
+        ensures in_time { OnOk result (settled self.old.rules self.old.journal (job_at self.old attempt) ≡ None) }
+        ensures late { IfErr result (λ late. HasOutcome self.old (job_at self.old attempt) late.0) }
+        ensures err { OnErr result (self.new ≡ self.old) }
+    {
+        let job = self.index.attempts[attempt as usize - 1];
+        let before = state(&self.index.jobs, job);
+        if let Some(how) = before.ending {
+            return Err(Late(outcome_in(&self.journal, how)));
+        }
+        self.journal.push_reserved(Entry {
+            caller,
+            event: Event::Starved { attempt },
+        });
+        let after = JobState {
+            open_now: before.open_now - 1,
+            ending: Some(Ending::Starved),
+            ..before
+        };
+        put(
+            &mut self.index.jobs,
+            &mut self.index.waiting,
+            self.rules.attempts,
+            job,
+            after,
+        );
+        self.index.open_now -= 1;
+        self.index.settled += 1;
+        Ok(())
+    }
+
+    /// Ends an attempt whose job is settled.
+    pub fn drop_attempt(&mut self, caller: u32, attempt: u32)
+        requires own { IsOwn self.old caller attempt }
+        requires settled { IsSome (settled self.old.rules self.old.journal (job_at self.old attempt)) }
+        ensures { self.new ≡ entered self.old caller (event.Dropped attempt) }
+    {
+        let job = self.index.attempts[attempt as usize - 1];
+        let before = state(&self.index.jobs, job);
+        self.journal.push_reserved(Entry {
+            caller,
+            event: Event::Dropped { attempt },
+        });
+        let after = JobState {
+            open_now: before.open_now - 1,
+            ..before
+        };
+        put(
+            &mut self.index.jobs,
+            &mut self.index.waiting,
+            self.rules.attempts,
+            job,
+            after,
+        );
+        self.index.open_now -= 1;
+    }
+}
+
+// How a job stands settled after so many spent attempts.
+fn ending_by_budget(spent: u32, most: u32) -> Option<Ending>
+    ensures { result ≡ (if nat_le most spent then Some ending.Spent else None) }
+{
+    if spent >= most {
+        Some(Ending::Spent)
+    } else {
+        None
+    }
+}
+
+// How many jobs an ending settles.
+fn newly_settled(ending: Option<Ending>) -> usize
+    ensures { result ≡ (if is_some ending then 1 else 0) }
+{
+    match ending {
+        Some(_) => 1,
+        None => 0,
+    }
+}

@@ -1,0 +1,3 @@
+pub mod Tokens
+pub mod Digits
+pub mod Back

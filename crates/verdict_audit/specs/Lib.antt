@@ -1,0 +1,5 @@
+pub mod Proof
+pub mod Case
+pub mod Problem
+pub mod Audit
+pub mod Law

@@ -1,0 +1,4 @@
+pub mod JobLines
+pub mod BlockLines
+pub mod LinesBack
+pub mod RoundTrip

@@ -1,0 +1,4 @@
+pub mod Block
+pub mod Line
+pub mod Text
+pub mod Written
