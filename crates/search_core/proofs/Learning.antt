@@ -27,7 +27,7 @@ step_stays old new number one front is =
     subst (λ (steps : List Step). IsStep steps number one) (sym front.is)
     (subst (λ knowns. item_at knowns number ≡ Some one) (sym (map-append known_of old front.more)) (item_at-more (map known_of old) (map known_of front.more) number one is))
 
-named_stay : (old new : List Step) (numbers : List ℕ) (more : List Known) → IsFront old new → AreNamed old numbers more → AreNamed new numbers more
+pub named_stay : (old new : List Step) (numbers : List ℕ) (more : List Known) → IsFront old new → AreNamed old numbers more → AreNamed new numbers more
 named_stay old new [] [] front named = tt
 named_stay old new [] (one ∷ more) front named = absurd named
 named_stay old new (number ∷ numbers) [] front named = absurd named

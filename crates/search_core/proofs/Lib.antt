@@ -20,3 +20,5 @@ pub mod Learning
 pub mod Reserved
 pub mod Solved
 pub mod Sound
+pub mod Repeats
+pub mod Answered

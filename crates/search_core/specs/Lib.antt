@@ -10,3 +10,4 @@ pub mod Lessons
 pub mod Refutations
 pub mod Rounds
 pub mod Solving
+pub mod Answering
