@@ -1,5 +1,5 @@
 -- Rounds, one after another, until there is an answer.
-use Rattle.std.proofs.Common.{◌≡◌, ◌∙◌, ℕ, ◌+◌, ◌-◌, ◌<◌, ◌≤◌, List, ◌++◌, length, ap, subst, arith}
+use Rattle.std.proofs.Common.{◌≡◌, ◌∙◌, ℕ, ◌+◌, ◌-◌, ◌<◌, List, ◌++◌, length, ap, subst, arith}
 use Rattle.std.specs.Prelude.{Bool, ◌^◌}
 use Rattle.std.proofs.lemmas.List.{length-append}
 use Rattle.trace_core.specs.Known.{Known}

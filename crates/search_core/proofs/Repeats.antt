@@ -1,6 +1,6 @@
 -- No clause is learnt twice, so there is an end.
-use Rattle.std.proofs.Common.{◌≡◌, ◌≢◌, ◌∙◌, ℕ, ◌<◌, ◌≤◌, List, [], ◌∷◌, ◌++◌, length, map, Option, Some, refl, ap, sym, subst, arith}
-use Rattle.std.specs.Prelude.{All, AllPairs, Contains, ◌^◌, IsTrue, filter}
+use Rattle.std.proofs.Common.{◌≢◌, ◌∙◌, ℕ, ◌<◌, ◌≤◌, List, [], ◌∷◌, ◌++◌, length, refl, ap, sym, subst, arith}
+use Rattle.std.specs.Prelude.{All, AllPairs, Contains, ◌^◌, IsTrue}
 use Rattle.std.proofs.lemmas.List.{append-nil, append_assoc, length-map}
 use Rattle.std.proofs.lemmas.List.Elements.{All-nil, All-cons, All-append, All-map, All-contains, Contains-append_left, Contains-append_right}
 use Rattle.std.proofs.lemmas.List.Kept.{AllPairs-cons}
@@ -12,9 +12,9 @@ use Rattle.trace_core.specs.Known.{Known}
 use Rattle.trace_core.specs.declared.derivation.Step.{Step}
 use Rattle.clause_arena.specs.Arena.{ArenaClause}
 use Rattle.search_core.specs.declared.search.Search.{Search}
-use Rattle.search_core.specs.Solver.{Solver, IsStep, inputs_of, held_of, clauses_of, known_clause, in_order}
+use Rattle.search_core.specs.Solver.{Solver, inputs_of, held_of, clauses_of, known_clause}
 use Rattle.search_core.specs.Searching.{IsSearching, solver_of}
-use Rattle.search_core.specs.Rounds.{ContainsNone, AreNew, AreNamed}
+use Rattle.search_core.specs.Rounds.{AreNew, AreNamed}
 use Rattle.search_core.specs.Solving.{Learns}
 use Rattle.search_core.proofs.Lists.{All-under}
 use Rattle.search_core.proofs.InOrder.{in_order-ascends, in_order-has}
@@ -54,8 +54,8 @@ pub few_learnt : (old new : Search) (cube : List ℕ) (more : List Known) → Is
 few_learnt old new cube more kept l =
     let bound = greatest_of_all (clauses_of (inputs_of old.store.clauses)) in
     let each = All-map (IsProperClause bound) (λ (one : Known). one.clause) more (All-from_members (λ (one : Known). IsProperClause bound one.clause) more (λ one has.
-        let p = All-contains (λ (x : Known). (IsTautology x.clause → ⊥) × (greatest_of x.clause ≤ bound)) more one l.proper has in
-        held_proper new cube bound one kept (subst (λ (xs : List Known). Contains xs one) (sym l.held) (Contains-append_right (held_of old.store.clauses) more one has)) p.0 p.1)) in
+    let p = All-contains (λ (x : Known). (IsTautology x.clause → ⊥) × (greatest_of x.clause ≤ bound)) more one l.proper has in
+    held_proper new cube bound one kept (subst (λ (xs : List Known). Contains xs one) (sym l.held) (Contains-append_right (held_of old.store.clauses) more one has)) p.0 p.1)) in
     subst (λ n. n ≤ 3 ^ bound) (length-map more (λ (one : Known). one.clause)) (few bound (clauses_of more) each (apart (held_of old.store.clauses) more l.fresh))
 
 named_append : (steps : List Step) (names names' : List ℕ) (more more' : List Known) → AreNamed steps names more → AreNamed steps names' more' → AreNamed steps (names ++ names') (more ++ more')

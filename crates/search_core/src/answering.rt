@@ -23,7 +23,11 @@ pub enum Answer {
 /// Rounds of `limit` learnt clauses until the cube has its answer. The search is at level 0 before and after.
 /// What was learnt is kept. It comes to an end: over V variables there are at most 3^V clauses that aren't tautologies, and no clause
 /// is learnt twice.
-pub fn solve_until_answered(search: &mut Search, cube: &Cube, limit: u64) -> Result<Answer, AllocError>
+pub fn solve_until_answered(
+    search: &mut Search,
+    cube: &Cube,
+    limit: u64,
+) -> Result<Answer, AllocError>
     requires kept { IsSearching search.old cube.now }
     requires zero { search.old.trail.depth ≡ 0 }
     requires some { 0 < limit }
