@@ -1,5 +1,5 @@
 -- Where nothing fails and memory is there, the text decides what a run writes, however much of it was read.
-use Rattle.std.proofs.Common.{◌≡◌, ◌∙◌, ℕ, List, ◌++◌, length, Option, Bool, true, false, refl, ap, sym, subst, append-nil, inl, inr}
+use Rattle.std.proofs.Common.{◌≡◌, ◌∙◌, ℕ, List, ◌++◌, length, Option, Bool, true, false, refl, ap, sym, append-nil, inl, inr}
 use Rattle.std.specs.Prelude.{◌⊎◌, Some, None}
 use Rattle.run_io.specs.Bytes.{appended, followed_by, IsEmptyWhereTold}
 use Rattle.icnf_text.specs.declared.faults.Fault.{Fault}
@@ -9,7 +9,7 @@ use Rattle.icnf_text.specs.Jobs.{jobs_of}
 use Rattle.icnf_text.proofs.Fronts.{none_behind_wrong, none_at_end_behind_wrong, wrong_stays, wrong_stays_at_end}
 use Rattle.tarmo_run.specs.declared.endings.Ending.{Ending}
 use Rattle.tarmo_run.specs.declared.endings.Ending.TheVariants.{Complete, Refused, Unread, Exhausted}
-use Rattle.tarmo_run.specs.Output.{AreShown, IsAnswered, Reading, ending_by, jobs_in, last_line_of, status_of, unnumbered}
+use Rattle.tarmo_run.specs.Output.{AreShown, IsAnswered, ending_by, jobs_in, last_line_of, status_of, unnumbered}
 use Rattle.tarmo_run.specs.Written.{Finished}
 
 -- what a source that is ended gave is all that it had

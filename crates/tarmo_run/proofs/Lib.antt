@@ -1,9 +1,7 @@
 pub mod Closing
 pub mod Completeness
-pub mod Greatest
-pub mod Place
 pub mod Progress
 pub mod Reached
 pub mod Results
-pub mod Short
 pub mod Statements
+pub mod Right

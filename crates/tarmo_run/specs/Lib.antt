@@ -1,5 +1,5 @@
-pub mod Count
 pub mod Block
 pub mod Output
 pub mod Stop
 pub mod Written
+pub mod Solved

@@ -6,8 +6,9 @@ ghost use Rattle.sat_base.specs.Lit.{IsLitSet, is_ascending};
 ghost use Rattle.sat_base.specs.Truth.{IsModelOf, IsRefutedPart};
 ghost use Rattle.tarmo_run.specs.Block.{IsBlock, signed_text, lits_text, values_text, model_block, part_block};
 
-use crate::search::find_model;
+use crate::solving::find_answer;
 use sat_base::{Clause, Cube, Lit};
+use search_core::Answer;
 use std::alloc::{AllocError, Global};
 
 // A number in decimal digits.
@@ -82,8 +83,8 @@ pub(crate) fn solved_block(
 ) -> Result<Vec<u8>, AllocError>
     ensures { IfOk result (λ text. IsBlock job clauses.now cube.now text.items) }
 {
-    match find_model(alloc, clauses, cube)? {
-        Some(model) => block_of_model(alloc, job, model.values()),
-        None => block_of_part(alloc, job, cube.lits()),
+    match find_answer(alloc, clauses, cube)? {
+        Answer::Model(model) => block_of_model(alloc, job, model.values()),
+        Answer::Refuted(_, _) => block_of_part(alloc, job, cube.lits()),
     }
 }

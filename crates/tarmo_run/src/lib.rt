@@ -10,7 +10,7 @@ mod blocks;
 mod endings;
 mod pieces;
 mod queries;
-mod search;
+mod solving;
 #[cfg(test)]
 mod tests;
 
