@@ -47,12 +47,12 @@ assigned_by trues lit (Some true) some has free = free.not_true has
 assigned_by trues lit (Some false) some has free = free.not_false has
 
 -- one more variable is assigned
-pub assigned_more : (trues : List ℕ) (var lit : ℕ) (value : Option Bool) → ((other : ℕ) → IsLit other → variable other < var → IsUnassigned trues other → ⊥) → variable lit ≡ var → (value ≡ None → ⊥) → HasTruth trues lit (truth_of value)
-    → (other : ℕ) → IsLit other → variable other < var + 1 → IsUnassigned trues other → ⊥
-assigned_more trues var lit value below is some has other other_is lt free = at (cases_lt (variable other) var)
+pub assigned_more : (trues : List ℕ) (first var lit : ℕ) (value : Option Bool) → ((other : ℕ) → IsLit other → first ≤ variable other → variable other < var → IsUnassigned trues other → ⊥) → variable lit ≡ var → (value ≡ None → ⊥) → HasTruth trues lit (truth_of value)
+    → (other : ℕ) → IsLit other → first ≤ variable other → variable other < var + 1 → IsUnassigned trues other → ⊥
+assigned_more trues first var lit value below is some has other other_is low lt free = at (cases_lt (variable other) var)
   where
     at : (variable other < var) ⊎ (var ≤ variable other) → ⊥
-    at (inl less) = below other other_is less free
+    at (inl less) = below other other_is low less free
     at (inr here) = assigned_by trues lit value some has (same_variable trues other lit (omega (arith, here, lt, is)) free)
 
 pub some_value : (value : Option Bool) → is_some value ≡ true → value ≡ None → ⊥

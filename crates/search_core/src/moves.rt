@@ -33,7 +33,7 @@ pub(crate) fn next_move(trail: &Trail, cube: &Cube, vars: u32) -> Move
             None => Move::Decide(lit),
         };
     }
-    match next_free(trail, vars) {
+    match next_free(trail, cube, vars) {
         Some(lit) => Move::Decide(lit),
         None => Move::Stop,
     }
@@ -63,12 +63,47 @@ pub(crate) fn is_true(trail: &Trail, lit: Lit) -> bool
 }
 
 // The place where a free variable is chosen: the least one, which becomes false.
-fn next_free(trail: &Trail, vars: u32) -> Option<Lit>
+fn next_free(trail: &Trail, cube: &Cube, vars: u32) -> Option<Lit>
     requires { vars ≤ 8388607 }
     ensures some { IfSome result (λ lit. IsLit lit × (variable lit ≤ vars) × IsUnassigned (lits_of trail.now.entries) lit) }
     ensures none { IfNone result (AreAssigned (lits_of trail.now.entries) vars) }
 {
-    for var in 1..vars + 1 {
+    let begin = first_place(trail, cube).min(vars);
+    match free_among(trail, begin + 1, vars) {
+        Some(lit) => Some(lit),
+        None => free_among(trail, 1, begin),
+    }
+}
+
+// Behind which variable to look first: where the last decision was of a free variable, all below this one were
+// assigned when it was made, and are so still.
+fn first_place(trail: &Trail, cube: &Cube) -> u32
+    ensures { result ≤ 8388607 }
+{
+    let lits = trail.lits();
+    let mut place = lits.len();
+    while place > 0 {
+        place -= 1;
+        let lit = lits[place];
+        if trail.reason(lit.var()).is_none() {
+            return if is_in(cube, lit) { 0 } else { lit.var() };
+        }
+    }
+    0
+}
+
+fn is_in(cube: &Cube, lit: Lit) -> bool {
+    cube.lits().iter().any(|other| other.code() == lit.code())
+}
+
+// The negative literal of the first variable of these that is unassigned.
+fn free_among(trail: &Trail, first: u32, last: u32) -> Option<Lit>
+    requires low { 1 ≤ first }
+    requires high { last ≤ 8388607 }
+    ensures some { IfSome result (λ lit. IsLit lit × (variable lit ≤ last) × IsUnassigned (lits_of trail.now.entries) lit) }
+    ensures none { IfNone result ((lit : ℕ) → IsLit lit → first ≤ variable lit → variable lit ≤ last → IsUnassigned (lits_of trail.now.entries) lit → ⊥) }
+{
+    for var in first..last + 1 {
         let lit = negative(var);
         if trail.value(lit).is_none() {
             return Some(lit);
