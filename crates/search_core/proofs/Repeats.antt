@@ -72,6 +72,7 @@ pub learns_none : (solver : Solver) → Learns solver solver []
 learns_none solver = record {
   inputs = refl;
   bound = refl;
+  packets = refl;
   held = sym (append-nil solver.held);
   names = [];
   learnt = sym (append-nil solver.learnt);
@@ -85,6 +86,7 @@ pub learns_then : (old mid new : Solver) (more more' : List Known) → Learns ol
 learns_then old mid new more more' a b = record {
   inputs = b.inputs ∙ a.inputs;
   bound = b.bound ∙ a.bound;
+  packets = b.packets ∙ a.packets;
   held = b.held ∙ ap (λ (xs : List Known). xs ++ more') a.held ∙ append_assoc old.held more more';
   names = a.names ++ b.names;
   learnt = b.learnt ∙ ap (λ (xs : List ℕ). xs ++ b.names) a.learnt ∙ append_assoc old.learnt a.names b.names;

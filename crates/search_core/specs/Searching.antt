@@ -25,6 +25,7 @@ solver_of search = record {
   held = held_of search.store.clauses;
   steps = search.steps.items;
   learnt = search.learnt.items;
+  packets = [];
 }
 
 -- The variables of the clauses are reserved everywhere.

@@ -1,5 +1,5 @@
 -- A solver as contracts see it, and what it keeps.
-use Rattle.std.specs.Prelude.{◌≡◌, ℕ, ◌≤◌, nat_lt, ◌==◌, Bool, true, false, if◌then◌else◌, List, [], ◌∷◌, map, filter, All, Contains, Option, Some}
+use Rattle.std.specs.Prelude.{◌≡◌, ℕ, ◌≤◌, nat_lt, ◌==◌, Bool, true, false, if◌then◌else◌, List, [], ◌∷◌, map, filter, All, Contains, Option, None, Some}
 use Rattle.sat_base.specs.declared.origins.Ref.{Ref}
 use Rattle.sat_base.specs.declared.origins.Ref.TheVariants.{Input, Shared, Own}
 use Rattle.sat_base.specs.Truth.{Entails}
@@ -20,13 +20,22 @@ in_order [] = []
 in_order (lit ∷ lits) = put_in lit (in_order lits)
 
 -- The inputs, each with the number of the first job that has it; the number of the job that is loaded; the clauses that are held;
--- the own steps, and the numbers of those that are learnt clauses.
+-- the own steps, and the numbers of those that are learnt clauses; and the shared packet of each place that is known.
 pub record Solver : Type 0 where
   pub inputs : List Known
   pub bound : ℕ
   pub held : List Known
   pub steps : List Step
   pub learnt : List ℕ
+  pub packets : List (Option (List Step))
+
+-- what a packet makes known, where its place is known
+abbrev pub known_in : Option (List Step) → List Known
+known_in None = []
+known_in (Some packet) = map known_of packet
+
+abbrev pub shared_by : List (Option (List Step)) → List (List Known)
+shared_by packets = map known_in packets
 
 abbrev pub clauses_of : List Known → List (List ℕ)
 clauses_of knowns = map (λ one. one.clause) knowns
@@ -45,7 +54,7 @@ pub record IsSound (solver : Solver) : Type 0 where
   pub inputs_held : All (Contains solver.held) solver.inputs
   pub entailed : All (λ one. Entails (clauses_up_to solver.inputs one.tag) one.clause) solver.held
   pub bounded : All (λ one. one.tag ≤ solver.bound) solver.held
-  pub ok : AreOkSteps solver.inputs [] [] solver.steps
+  pub ok : AreOkSteps solver.inputs (shared_by solver.packets) [] solver.steps
   pub learnt_held : All (λ number. (one : Known) × IsStep solver.steps number one × Contains solver.held one) solver.learnt
 
 -- a clause as a set with its tag

@@ -15,6 +15,7 @@ use Rattle.search_core.specs.Refutations.{IsRefutation}
 pub record Learns (old new : Solver) (more : List Known) : Type 0 where
   pub inputs : new.inputs ≡ old.inputs
   pub bound : new.bound ≡ old.bound
+  pub packets : new.packets ≡ old.packets
   pub held : new.held ≡ old.held ++ more
   pub names : List ℕ
   pub learnt : new.learnt ≡ old.learnt ++ names

@@ -38,7 +38,7 @@ impl Search {
     /// A search without inputs, at level 0. Takes no memory.
     pub fn new(alloc: Global) -> Search
         ensures kept { (cube : List ℕ) → IsSearching result cube }
-        ensures solver { solver_of result ≡ record { inputs = []; bound = 0; held = []; steps = []; learnt = [] } }
+        ensures solver { solver_of result ≡ record { inputs = []; bound = 0; held = []; steps = []; learnt = []; packets = [] } }
         ensures zero { result.trail.depth ≡ 0 }
         ensures none { result.inputs ≡ 0 }
     {

@@ -1,0 +1,13 @@
+-- How a session keeps its solver.
+use Rattle.std.specs.Prelude.{◌≡◌, ℕ, List}
+use Rattle.search_core.specs.Searching.{IsSearching, solver_of}
+use Rattle.session.specs.declared.session.Session.TheInside.{Inside}
+use Rattle.session.specs.Session.{SessionView}
+
+abbrev pub session_of : Inside → SessionView
+session_of a = record { solver = solver_of a.search; names = a.names.items }
+
+-- Between calls the search is at level 0, where it is one for every cube.
+pub record IsResting (a : Inside) : Type 0 where
+  pub kept : (cube : List ℕ) → IsSearching a.search cube
+  pub zero : a.search.trail.depth ≡ 0
