@@ -62,6 +62,7 @@ learnt_none s = record {
   fresh = tt;
   proper = λ i d lt. absurd (omega (arith, lt));
   numbers = (refl, refl, refl);
+  packets = refl;
   vars = refl;
 }
 
@@ -76,6 +77,7 @@ learnt_same old mid new more a b = record {
   fresh = a.fresh;
   proper = a.proper;
   numbers = (b.numbers.0 ∙ a.numbers.0, b.numbers.1 ∙ a.numbers.1, b.numbers.2 ∙ a.numbers.2);
+  packets = b.packets ∙ a.packets;
   vars = b.vars ∙ a.vars;
 }
 
@@ -90,6 +92,7 @@ learnt_more old mid new more a one = record {
   fresh = new_push (held_of old.store.clauses) more (known_of one.step) a.fresh (subst (λ (xs : List Known). ContainsNone xs (known_of one.step)) a.held (contains_none mid.store.clauses one.step one.fresh));
   proper = All-push (λ (x : Known). (IsTautology x.clause → ⊥) × (greatest_of x.clause ≤ old.greatest)) more (known_of one.step) a.proper (one.proper, omega (arith, one.within, a.numbers.0));
   numbers = (one.numbers.0 ∙ a.numbers.0, one.numbers.1 ∙ a.numbers.1, one.numbers.2 ∙ a.numbers.2);
+  packets = one.packets ∙ a.packets;
   vars = one.vars ∙ a.vars;
 }
   where

@@ -25,7 +25,7 @@ use Rattle.search_core.specs.Stock.{IsStocked}
 use Rattle.search_core.proofs.InOrder.{in_order-itself}
 use Rattle.search_core.specs.OnTrail.{IsOnTrail}
 use Rattle.search_core.specs.Units.{IsNamed}
-use Rattle.search_core.specs.Searching.{IsSearching, table_of}
+use Rattle.search_core.specs.Searching.{IsSearching, packets_of, table_of}
 use Rattle.search_core.specs.declared.conflicts.Lesson.{Lesson}
 use Rattle.search_core.specs.Lessons.{IsLesson}
 use Rattle.search_core.specs.Learning.{HasLearntOne}
@@ -104,7 +104,7 @@ pub search_added : (s : Search) (cube : List ℕ) (store : StoreView) (step : St
     → IsStep s.steps.items number (known_of step) → All IsLit step.clause → IsTrue (is_ascending step.clause) → AreWithin s.greatest step.clause
     → ((level : ℕ) → level < s.trail.depth → IsOpenClause (lits_of (up_to level s.trail.entries)) step.clause) → IsSearching (record s { store = store }) cube
 search_added s cube store step number kept added vars_are is lits ascending within is_open = record {
-  stock = subst (λ clauses. IsStocked clauses s.steps.items s.bound) (sym added) (stock_learnt s.store.clauses s.steps.items s.bound step number kept.stock is lits ascending);
+  stock = subst (λ clauses. IsStocked clauses (packets_of s) s.steps.items s.bound) (sym added) (stock_learnt s.store.clauses (packets_of s) s.steps.items s.bound step number kept.stock is lits ascending);
   room = record {
     over = subst (λ clauses. AreAllWithin s.greatest clauses) (sym added) (All-push (λ (clause : ArenaClause). AreWithin s.greatest clause.lits) s.store.clauses learnt kept.room.over within);
     reserved = kept.room.reserved;
@@ -122,7 +122,7 @@ search_added s cube store step number kept added vars_are is lits ascending with
   };
   on = subst (λ lits. IsOnTrail lits cube s.trail.entries s.trail.depth) (sym (ap lits_of_each added ∙ map_push (λ (clause : ArenaClause). clause.lits) s.store.clauses learnt))
       (more_on_trail (lits_of_each s.store.clauses) step.clause cube s.trail.entries s.trail.depth is_open kept.on);
-  named = subst (λ inputs. IsNamed (named_by inputs s.steps.items) s.trail.entries s.units.items s.tags.items s.named) (sym inputs) kept.named;
+  named = subst (λ inputs. IsNamed (named_by inputs (packets_of s) s.steps.items) s.trail.entries s.units.items s.tags.items s.named) (sym inputs) kept.named;
   all_named = kept.all_named;
 }
   where
@@ -332,8 +332,8 @@ lesson_forces s lesson trail clauses number id lit is l entries_are clauses_are 
         ∙ ap (λ (one : ArenaClause). one.lits) (get_or_push s.store.clauses learnt no_clause id (sym id_is))
 
 pub learnt_one : (old s : Search) (l : Lesson) (number : ℕ) → IsLesson old l → IsLitSet l.clause → s.steps.items ≡ old.steps.items ++ l.step ∷ [] → number ≡ length s.steps.items → s.learnt.items ≡ old.learnt.items ++ number ∷ []
-    → s.store.clauses ≡ old.store.clauses ++ record { lits = l.clause; tag = l.step.tag; origin = Own number } ∷ [] → (s.greatest ≡ old.greatest) × (s.inputs ≡ old.inputs) × (s.bound ≡ old.bound) → s.trail.vars ≡ old.trail.vars → HasLearntOne old s
-learnt_one old s l number lesson set pushed last listed added numbers vars = record {
+    → s.store.clauses ≡ old.store.clauses ++ record { lits = l.clause; tag = l.step.tag; origin = Own number } ∷ [] → (s.greatest ≡ old.greatest) × (s.inputs ≡ old.inputs) × (s.bound ≡ old.bound) → packets_of s ≡ packets_of old → s.trail.vars ≡ old.trail.vars → HasLearntOne old s
+learnt_one old s l number lesson set pushed last listed added numbers packets vars = record {
   step = l.step;
   steps = pushed;
   learnt = listed ∙ ap (λ n. old.learnt.items ++ n ∷ []) last;
@@ -343,5 +343,6 @@ learnt_one old s l number lesson set pushed last listed added numbers vars = rec
   within = subst (λ lits. greatest_of lits ≤ old.greatest) (sym lesson.of) (greatest_within l.clause old.greatest (λ lit has. All-contains (λ x. variable x ≤ old.greatest) l.clause lit lesson.within has));
   inputs = ap inputs_of added ∙ inputs_learnt old.store.clauses l.clause l.step.tag number;
   numbers = numbers;
+  packets = packets;
   vars = vars;
 }

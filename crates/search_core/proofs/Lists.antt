@@ -1,7 +1,8 @@
 -- Items of longer lists, and members of them.
 use Rattle.std.proofs.Common.{◌≡◌, ◌∙◌, ℕ, zero, suc, ◌+◌, ◌-◌, ◌<◌, ◌≤◌, List, [], ◌∷◌, ◌++◌, length, map, filter, None, Some, Bool, true, false, refl, ap, sym, subst, inl, inr, arith, get_or}
-use Rattle.std.specs.Prelude.{◌⊎◌, ◌==◌, All, Contains, IsTrue, cond, slice_get, max}
+use Rattle.std.specs.Prelude.{◌⊎◌, ◌==◌, All, Contains, IsTrue, cond, slice_get, option_map, max}
 use Rattle.std.proofs.lemmas.List.{get_or_push, get_or_append_left, length_push}
+use Rattle.std.proofs.lemmas.Option.{slice_get-map}
 use Rattle.std.proofs.lemmas.Bool.{cases_lt}
 use Rattle.std.proofs.lemmas.Bool.Decides.{nat_tests}
 use Rattle.sat_base.proofs.Members.{Contains-here, Contains-there, Contains-cases}
@@ -30,6 +31,13 @@ item_at-last {X} xs x place is = guarded (place == 0) refl
     guarded : (b : Bool) → (place == 0) ≡ b → cond b None (slice_get (xs ++ x ∷ []) (place - 1)) ≡ Some x
     guarded true zero_is = absurd (grind (arith, nat_tests, is, zero_is))
     guarded false _ = subst (λ n. slice_get (xs ++ x ∷ []) n ≡ Some x) (let e : length xs ≡ place - 1 = omega (arith, is) in e) (slice_get-last xs x)
+
+pub item_at-map : {X Y : Type 0} (f : X → Y) (xs : List X) (place : ℕ) → item_at (map f xs) place ≡ option_map f (item_at xs place)
+item_at-map f xs place = guarded (place == 0)
+  where
+    guarded : (b : Bool) → cond b None (slice_get (map f xs) (place - 1)) ≡ option_map f (cond b None (slice_get xs (place - 1)))
+    guarded true = refl
+    guarded false = slice_get-map f xs (place - 1)
 
 -- what a filter lets through was there, and passes
 pub Contains-passes : {X : Type 0} (p : X → Bool) (xs : List X) (x : X) → Contains (filter p xs) x → Contains xs x × IsTrue (p x)

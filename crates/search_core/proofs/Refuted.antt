@@ -9,7 +9,6 @@ use Rattle.sat_base.proofs.Members.{All-from_members, Contains-map, Contains-fro
 use Rattle.sat_base.proofs.Opposite.{Contains-negations, variable-opposite}
 use Rattle.sat_base.proofs.Entailment.{sees_members}
 use Rattle.trace_core.specs.Known.{Known}
-use Rattle.trace_core.specs.Law.{clauses_up_to}
 use Rattle.trace_core.specs.Trace.{known_of}
 use Rattle.trace_core.specs.declared.derivation.Step.{Step}
 use Rattle.trail_core.specs.Trail.{TrailView, IsTrail, entry_at, lits_of}
@@ -21,18 +20,12 @@ use Rattle.search_core.specs.declared.search.Search.{Search}
 use Rattle.search_core.specs.Solver.{inputs_of, clauses_of, IsStep}
 use Rattle.search_core.specs.OnTrail.{IsForCube}
 use Rattle.search_core.specs.Units.{KnowsOpposites}
-use Rattle.search_core.specs.Searching.{IsSearching, table_of}
+use Rattle.search_core.specs.Searching.{IsSearching, packets_of, table_of}
 use Rattle.search_core.specs.Refutations.{IsRefutation}
 use Rattle.search_core.proofs.Lists.{Contains-from_filter}
 use Rattle.search_core.proofs.Stocked.{known_follows}
 use Rattle.search_core.proofs.Asserted.{place_of_true}
 use Rattle.search_core.proofs.Reasons.{true_before}
-
--- what follows from the inputs up to a tag follows from all inputs
-all_inputs : (inputs : List Known) (tag : ℕ) (clause : List ℕ) → Entails (clauses_up_to inputs tag) clause → Entails (clauses_of inputs) clause
-all_inputs inputs tag clause follows values all = follows values (all_from_members (clause_true values) (clauses_up_to inputs tag) (λ one has.
-    let (input, among, is) = Contains-from_map (λ (x : Known). x.clause) (filter (λ x. nat_le x.tag tag) inputs) one has in
-    all_member (clause_true values) (clauses_of inputs) one all (subst (Contains (clauses_of inputs)) is (Contains-map (λ (x : Known). x.clause) inputs input (Contains-from_filter (λ (x : Known). nat_le x.tag tag) inputs input among)))))
 
 -- a clause that negates a part says that the part is refuted
 refuted_by : (inputs : List Known) (part clause : List ℕ) → ((lit : ℕ) → Contains clause lit ↔ Contains part (opposite lit)) → Entails (clauses_of inputs) clause → Entails (clauses_of inputs) (map opposite part)
@@ -46,7 +39,7 @@ pub refutation_from : (s : Search) (cube part : List ℕ) (number : ℕ) (step :
 refutation_from s cube part number step kept is within negates = record {
   right = record {
     within = within;
-    refuted = refuted_by (inputs_of s.store.clauses) part step.clause negates (all_inputs (inputs_of s.store.clauses) step.tag step.clause (known_follows s.store.clauses s.steps.items s.bound kept.stock (Own number) (known_of step) is));
+    refuted = refuted_by (inputs_of s.store.clauses) part step.clause negates (known_follows s.store.clauses (packets_of s) s.steps.items s.bound kept.stock (Own number) (known_of step) is);
   };
   one = known_of step;
   step = is;

@@ -1,23 +1,25 @@
 -- A search for which variables are reserved, and that takes an input.
-use Rattle.std.proofs.Common.{◌≡◌, ◌∙◌, ℕ, ◌+◌, ◌-◌, ◌<◌, ◌≤◌, List, [], ◌∷◌, ◌++◌, length, map, filter, take, max, ap, sym, subst, arith, get_or, Vec, Global}
-use Rattle.std.specs.Prelude.{All, Contains}
+use Rattle.std.proofs.Common.{◌≡◌, ◌∙◌, ℕ, ◌+◌, ◌-◌, ◌<◌, ◌≤◌, List, [], ◌∷◌, ◌++◌, length, map, filter, take, max, Option, None, Some, Bool, true, false, ap, sym, subst, arith, get_or, Vec, Global}
+use Rattle.std.specs.Prelude.{All, Contains, ◌==◌, cond, slice_get, option_map}
+use Rattle.std.specs.Arc.{arc_value}
+use Rattle.std.proofs.lemmas.Option.{none-some}
 use Rattle.std.proofs.lemmas.List.{take_all, take_more, get_or-take, length-take, map_push, length_push}
 use Rattle.std.proofs.lemmas.List.Elements.{Contains-append_left, filter-append}
 use Rattle.sat_base.specs.Lit.{IsLitSet, variable, greatest_of, greatest_of_all}
 use Rattle.sat_base.specs.declared.origins.Ref.{Ref}
 use Rattle.sat_base.specs.declared.origins.Ref.TheVariants.{Input}
 use Rattle.sat_base.proofs.Members.{All-from_members}
-use Rattle.trace_core.specs.Known.{Known}
+use Rattle.trace_core.specs.Known.{Known, item_at}
 use Rattle.clause_arena.specs.Arena.{ArenaClause, lits_of_each}
 use Rattle.trail_core.specs.Trail.{Entry, TrailView, IsTrail, entry_at, no_entry}
 use Rattle.propagate.specs.Store.{StoreView, AreWithin, AreAllWithin}
 use Rattle.analyze.specs.Table.{IsNameOf, unit_of, tag_of_unit}
 use Rattle.search_core.specs.declared.search.Search.{Search}
-use Rattle.search_core.specs.Solver.{Solver, inputs_of, held_of, named_by, IsStep, known_clause, clauses_of, is_input}
+use Rattle.search_core.specs.Solver.{Solver, inputs_of, held_of, last_step_of, named_by, IsStep, known_clause, clauses_of, is_input}
 use Rattle.search_core.specs.Stock.{IsStocked}
 use Rattle.search_core.specs.OnTrail.{IsOnTrail}
 use Rattle.search_core.specs.Units.{IsNamed}
-use Rattle.search_core.specs.Searching.{IsSearching, HasInputMore, solver_of, table_of}
+use Rattle.search_core.specs.Searching.{IsSearching, HasInputMore, packets_of, solver_of, table_of}
 use Rattle.trace_core.specs.declared.derivation.Step.{Step}
 use Rattle.search_core.proofs.Lists.{All-push, All-under}
 use Rattle.search_core.proofs.InOrder.{in_order-itself}
@@ -56,7 +58,7 @@ pub search_reserved : (s : Search) (cube : List ℕ) (store : StoreView) (scratc
     → take (length s.units.items) units.items ≡ s.units.items → take (length s.tags.items) tags.items ≡ s.tags.items
     → IsSearching (record s { store = store; scratch = scratch; units = units; tags = tags; trail = trail }) cube
 search_reserved s cube store scratch units tags trail kept is clauses entries depth more in_store in_scratch in_units in_tags units_front tags_front = record {
-  stock = subst (λ cs. IsStocked cs s.steps.items s.bound) (sym clauses) kept.stock;
+  stock = subst (λ cs. IsStocked cs (packets_of s) s.steps.items s.bound) (sym clauses) kept.stock;
   room = record {
     over = subst (λ cs. AreAllWithin s.greatest cs) (sym clauses) kept.room.over;
     reserved = omega (arith, kept.room.reserved, more);
@@ -72,7 +74,7 @@ search_reserved s cube store scratch units tags trail kept is clauses entries de
   };
   on = subst (λ cs. IsOnTrail (lits_of_each cs) cube trail.entries trail.depth) (sym clauses)
       (subst (λ (es : List Entry). IsOnTrail (lits_of_each s.store.clauses) cube es trail.depth) (sym entries) (subst (IsOnTrail (lits_of_each s.store.clauses) cube s.trail.entries) (sym depth) kept.on));
-  named = subst (λ cs. IsNamed (named_by (inputs_of cs) s.steps.items) trail.entries units.items tags.items s.named) (sym clauses)
+  named = subst (λ cs. IsNamed (named_by (inputs_of cs) (packets_of s) s.steps.items) trail.entries units.items tags.items s.named) (sym clauses)
       (subst (λ (es : List Entry). IsNamed (table_of s) es units.items tags.items s.named) (sym entries) (record {
         within = kept.named.within;
         zero = kept.named.zero;
@@ -101,7 +103,7 @@ pub search_input : (s : Search) (cube clause : List ℕ) (store : StoreView) (ta
     → store.clauses ≡ s.store.clauses ++ record { lits = clause; tag = tag; origin = Input number } ∷ [] → store.vars ≡ s.store.vars
     → IsSearching (record s { store = store; greatest = most; inputs = number; bound = tag }) cube
 search_input s cube clause store tag number greatest most kept zero set le last greatest_is most_is within added vars_are = record {
-  stock = subst (λ cs. IsStocked cs s.steps.items tag) (sym added) (stock_input s.store.clauses s.steps.items s.bound tag number clause kept.stock le (omega (arith, last, kept.counted.inputs)) set.each set.ascending);
+  stock = subst (λ cs. IsStocked cs (packets_of s) s.steps.items tag) (sym added) (stock_input s.store.clauses (packets_of s) s.steps.items s.bound tag number clause kept.stock le (omega (arith, last, kept.counted.inputs)) set.each set.ascending);
   room = record {
     over = subst (λ cs. AreAllWithin most cs) (sym added) (All-push (λ (one : ArenaClause). AreWithin most one.lits) s.store.clauses input
         (All-under (λ (one : ArenaClause). AreWithin s.greatest one.lits) (λ one. AreWithin most one.lits) s.store.clauses
@@ -123,8 +125,8 @@ search_input s cube clause store tag number greatest most kept zero set le last 
   };
   on = subst (λ lits. IsOnTrail lits cube s.trail.entries s.trail.depth) (sym (ap lits_of_each added ∙ map_push (λ (c : ArenaClause). c.lits) s.store.clauses input))
       (more_on_trail (lits_of_each s.store.clauses) clause cube s.trail.entries s.trail.depth (λ level lt. absurd (omega (arith, lt, zero))) kept.on);
-  named = subst (λ xs. IsNamed (named_by xs s.steps.items) s.trail.entries s.units.items s.tags.items s.named) (sym inputs)
-      (named_stays (table_of s) (named_by (inputs_of s.store.clauses ++ one ∷ []) s.steps.items) s.trail.entries s.units.items s.tags.items s.named (λ name known is. named_with_input (inputs_of s.store.clauses) one s.steps.items name known is) kept.named);
+  named = subst (λ xs. IsNamed (named_by xs (packets_of s) s.steps.items) s.trail.entries s.units.items s.tags.items s.named) (sym inputs)
+      (named_stays (table_of s) (named_by (inputs_of s.store.clauses ++ one ∷ []) (packets_of s) s.steps.items) s.trail.entries s.units.items s.tags.items s.named (λ name known is. named_with_input (inputs_of s.store.clauses) one (packets_of s) s.steps.items name known is) kept.named);
   all_named = λ deep. absurd (omega (arith, deep, zero));
 }
   where
@@ -144,25 +146,35 @@ search_input s cube clause store tag number greatest most kept zero set le last 
     held = ap held_of added ∙ map_push known_clause s.store.clauses input ∙ ap (λ x. held_of s.store.clauses ++ x ∷ []) known_is
 
 pub input_more : (old s new : Search) (clause : List ℕ) (tag number : ℕ) → solver_of s ≡ solver_of old → IsLitSet clause → new.store.clauses ≡ s.store.clauses ++ record { lits = clause; tag = tag; origin = Input number } ∷ []
-    → new.bound ≡ tag → new.steps ≡ s.steps → new.learnt ≡ s.learnt → HasInputMore old new clause tag
-input_more old s new clause tag number solver set added bound steps learnt = record {
+    → new.bound ≡ tag → packets_of new ≡ packets_of s → new.steps ≡ s.steps → new.learnt ≡ s.learnt → HasInputMore old new clause tag
+input_more old s new clause tag number solver set added bound packets steps learnt = record {
   inputs = inputs_more s.store.clauses new.store.clauses clause tag number set added ∙ ap (λ (x : Solver). x.inputs ++ record { clause = clause; tag = tag } ∷ []) solver;
   held = ap held_of added ∙ map_push known_clause s.store.clauses (record { lits = clause; tag = tag; origin = Input number })
       ∙ ap (λ lits. held_of s.store.clauses ++ record { clause = lits; tag = tag } ∷ []) (in_order-itself clause set.ascending)
       ∙ ap (λ (x : Solver). x.held ++ record { clause = clause; tag = tag } ∷ []) solver;
   bound = bound;
+  packets = packets ∙ ap (λ (x : Solver). x.packets) solver;
   steps = ap (λ (x : Vec Step Global). x.items) steps ∙ ap (λ (x : Solver). x.steps) solver;
   learnt = ap (λ (x : Vec ℕ Global). x.items) learnt ∙ ap (λ (x : Solver). x.learnt) solver;
 }
 
+-- without places none is known
+none_known : (packets : List (Option (List Step))) (place number : ℕ) (one : Known) → packets ≡ [] → last_step_of (item_at packets place) number ≡ Some one → ⊥
+none_known packets place number one none is = at (place == 0) (subst (λ (xs : List (Option (List Step))). last_step_of (item_at xs place) number ≡ Some one) none is)
+  where
+    at : (b : Bool) → last_step_of (cond b None (slice_get [] (place - 1))) number ≡ Some one → ⊥
+    at true is = none-some one is
+    at false is = none-some one is
+
 -- a search without inputs
-pub new_search : (s : Search) (cube : List ℕ) → s.store.clauses ≡ [] → s.trail.entries ≡ [] → s.trail.depth ≡ 0 → s.trail.vars ≡ 0 → s.steps.items ≡ [] → s.learnt.items ≡ [] → s.named ≡ 0 → s.greatest ≡ 0 → s.inputs ≡ 0 → IsSearching s cube
-new_search s cube clauses entries depth vars steps learnt named greatest inputs = record {
-  stock = subst (λ cs. IsStocked cs s.steps.items s.bound) (sym clauses) (subst (λ xs. IsStocked [] xs s.bound) (sym steps) (record {
+pub new_search : (s : Search) (cube : List ℕ) → s.store.clauses ≡ [] → s.trail.entries ≡ [] → s.trail.depth ≡ 0 → s.trail.vars ≡ 0 → s.packets.items ≡ [] → s.steps.items ≡ [] → s.learnt.items ≡ [] → s.named ≡ 0 → s.greatest ≡ 0 → s.inputs ≡ 0 → IsSearching s cube
+new_search s cube clauses entries depth vars packets steps learnt named greatest inputs = record {
+  stock = subst (λ cs. IsStocked cs (packets_of s) s.steps.items s.bound) (sym clauses) (subst (λ xs. IsStocked [] (packets_of s) xs s.bound) (sym steps) (record {
     lits = λ i d lt. absurd (omega (arith, lt));
     named = λ i d lt. absurd (omega (arith, lt));
     entailed = λ i d lt. absurd (omega (arith, lt));
     bounded = λ i d lt. absurd (omega (arith, lt));
+    packets_held = λ place number one is. absurd (none_known (packets_of s) place number one (ap (map (option_map arc_value)) packets) is);
     ok = tt;
     steps_entailed = λ i d lt. absurd (omega (arith, lt));
     steps_bounded = λ i d lt. absurd (omega (arith, lt));

@@ -1,17 +1,16 @@
 -- Clauses whose literals change places are the same to a solver.
 use Rattle.std.proofs.Common.{◌≡◌, ◌∙◌, ℕ, zero, suc, ◌<◌, ◌≤◌, List, [], ◌∷◌, length, map, filter, Bool, true, false, refl, ap, sym, subst, arith}
-use Rattle.std.specs.Prelude.{All, Contains, cond, Some}
+use Rattle.std.specs.Prelude.{All, Contains, cond, Option, Some}
 use Rattle.std.proofs.lemmas.List.Elements.{All-contains}
 use Rattle.sat_base.specs.Lit.{IsLit}
 use Rattle.sat_base.specs.Truth.{Entails}
 use Rattle.sat_base.proofs.Members.{All-from_members}
 use Rattle.trace_core.specs.Known.{Known}
-use Rattle.trace_core.specs.Law.{clauses_up_to}
 use Rattle.trace_core.specs.Trace.{AreOkSteps}
 use Rattle.trace_core.specs.declared.derivation.Step.{Step}
 use Rattle.clause_arena.specs.Arena.{ArenaClause, clause_at}
 use Rattle.propagate.specs.Store.{IsSameClause, HasSameClauses}
-use Rattle.search_core.specs.Solver.{inputs_of, held_of, named_by, known_clause, in_order, is_input}
+use Rattle.search_core.specs.Solver.{inputs_of, held_of, clauses_of, named_by, shared_by, known_clause, in_order, is_input}
 use Rattle.search_core.specs.Stock.{IsStocked}
 use Rattle.search_core.proofs.InOrder.{in_order-same}
 
@@ -79,19 +78,20 @@ All-one_by_one P Q under (old ∷ olds) (new ∷ news) same all zero d lt = unde
 All-one_by_one P Q under (old ∷ olds) (new ∷ news) same all (suc i) d lt =
     All-one_by_one P Q under olds news same.1 (λ j e below. all (suc j) e (omega (arith, below))) i d (omega (arith, lt))
 
-pub stock_same : (olds news : List ArenaClause) (steps : List Step) (bound : ℕ) → HasSameClauses olds news → IsStocked olds steps bound → IsStocked news steps bound
-stock_same olds news steps bound same stock = record {
+pub stock_same : (olds news : List ArenaClause) (packets : List (Option (List Step))) (steps : List Step) (bound : ℕ) → HasSameClauses olds news → IsStocked olds packets steps bound → IsStocked news packets steps bound
+stock_same olds news packets steps bound same stock = record {
   lits = All-one_by_one (λ clause. All IsLit clause.lits) (λ clause. All IsLit clause.lits)
       (λ old new one lits. All-from_members IsLit new.lits (λ lit has. All-contains IsLit old.lits lit lits (All-contains (Contains old.lits) new.lits lit one.lits has))) olds news pairs stock.lits;
-  named = subst (λ inputs. All (λ clause. named_by inputs steps clause.origin ≡ Some (known_clause clause)) news) inputs
-      (All-one_by_one (λ clause. named_by (inputs_of olds) steps clause.origin ≡ Some (known_clause clause)) (λ clause. named_by (inputs_of olds) steps clause.origin ≡ Some (known_clause clause))
-      (λ old new one is. ap (named_by (inputs_of olds) steps) (sym one.name) ∙ is ∙ ap Some one.known) olds news pairs stock.named);
-  entailed = subst (λ inputs. All (λ clause. Entails (clauses_up_to inputs clause.tag) (known_clause clause).clause) news) inputs
-      (All-one_by_one (λ clause. Entails (clauses_up_to (inputs_of olds) clause.tag) (known_clause clause).clause) (λ clause. Entails (clauses_up_to (inputs_of olds) clause.tag) (known_clause clause).clause)
-      (λ old new one follows. subst (λ (known : Known). Entails (clauses_up_to (inputs_of olds) known.tag) known.clause) one.known follows) olds news pairs stock.entailed);
+  named = subst (λ inputs. All (λ clause. named_by inputs packets steps clause.origin ≡ Some (known_clause clause)) news) inputs
+      (All-one_by_one (λ clause. named_by (inputs_of olds) packets steps clause.origin ≡ Some (known_clause clause)) (λ clause. named_by (inputs_of olds) packets steps clause.origin ≡ Some (known_clause clause))
+      (λ old new one is. ap (named_by (inputs_of olds) packets steps) (sym one.name) ∙ is ∙ ap Some one.known) olds news pairs stock.named);
+  entailed = subst (λ inputs. All (λ clause. Entails (clauses_of inputs) (known_clause clause).clause) news) inputs
+      (All-one_by_one (λ clause. Entails (clauses_of (inputs_of olds)) (known_clause clause).clause) (λ clause. Entails (clauses_of (inputs_of olds)) (known_clause clause).clause)
+      (λ old new one follows. subst (λ (known : Known). Entails (clauses_of (inputs_of olds)) known.clause) one.known follows) olds news pairs stock.entailed);
   bounded = All-one_by_one (λ clause. clause.tag ≤ bound) (λ clause. clause.tag ≤ bound) (λ old new one low. subst (λ (known : Known). known.tag ≤ bound) one.known low) olds news pairs stock.bounded;
-  ok = subst (λ inputs. AreOkSteps inputs [] [] steps) inputs stock.ok;
-  steps_entailed = subst (λ inputs. All (λ (step : Step). Entails (clauses_up_to inputs step.tag) step.clause) steps) inputs stock.steps_entailed;
+  packets_held = λ place number one is. subst (λ (held : List Known). Contains held one) (held_same olds news pairs) (stock.packets_held place number one is);
+  ok = subst (λ inputs. AreOkSteps inputs (shared_by packets) [] steps) inputs stock.ok;
+  steps_entailed = subst (λ inputs. All (λ (step : Step). Entails (clauses_of inputs) step.clause) steps) inputs stock.steps_entailed;
   steps_bounded = stock.steps_bounded;
 }
   where

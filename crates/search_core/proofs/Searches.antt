@@ -18,13 +18,13 @@ use Rattle.trace_core.specs.declared.derivation.Step.{Step}
 use Rattle.search_core.specs.declared.search.Search.{Search}
 use Rattle.search_core.specs.Solver.{inputs_of, held_of, named_by, IsStep, known_clause}
 use Rattle.search_core.specs.Stock.{IsStocked}
-use Rattle.search_core.specs.Searching.{IsSearching, HasUnitsMore, table_of}
+use Rattle.search_core.specs.Searching.{IsSearching, HasUnitsMore, packets_of, table_of}
 use Rattle.search_core.proofs.Lists.{All-under, item_at-more}
 use Rattle.search_core.proofs.Stocked.{named_with_step, named_last, stock_step}
 use Rattle.search_core.proofs.Reasons.{named_stays, name_one, IsReason, reason_is, opposites_known}
 
-with_steps : (search : Search) (steps : Vec Step Global) (cube : List ℕ) → IsStocked search.store.clauses steps.items search.bound
-    → ((name : Ref) (known : Known) → table_of search name ≡ Some known → named_by (inputs_of search.store.clauses) steps.items name ≡ Some known)
+with_steps : (search : Search) (steps : Vec Step Global) (cube : List ℕ) → IsStocked search.store.clauses (packets_of search) steps.items search.bound
+    → ((name : Ref) (known : Known) → table_of search name ≡ Some known → named_by (inputs_of search.store.clauses) (packets_of search) steps.items name ≡ Some known)
     → ((number : ℕ) (one : Known) → IsStep search.steps.items number one → IsStep steps.items number one)
     → IsSearching search cube → IsSearching (record search { steps = steps }) cube
 with_steps search steps cube stock grows numbered s = record {
@@ -37,26 +37,26 @@ with_steps search steps cube stock grows numbered s = record {
         (λ number (one, is, held). (one, numbered number one is, held)) s.counted.learnt;
   };
   on = s.on;
-  named = named_stays (table_of search) (named_by (inputs_of search.store.clauses) steps.items) search.trail.entries search.units.items search.tags.items search.named grows s.named;
+  named = named_stays (table_of search) (named_by (inputs_of search.store.clauses) (packets_of search) steps.items) search.trail.entries search.units.items search.tags.items search.named grows s.named;
   all_named = s.all_named;
 }
 
 pub same_steps : (search : Search) (steps : Vec Step Global) (cube : List ℕ) → steps.items ≡ search.steps.items → IsSearching search cube → IsSearching (record search { steps = steps }) cube
 same_steps search steps cube same s =
-    with_steps search steps cube (subst (λ xs. IsStocked search.store.clauses xs search.bound) (sym same) s.stock)
-    (λ name known is. ap (λ xs. named_by (inputs_of search.store.clauses) xs name) same ∙ is)
+    with_steps search steps cube (subst (λ xs. IsStocked search.store.clauses (packets_of search) xs search.bound) (sym same) s.stock)
+    (λ name known is. ap (λ xs. named_by (inputs_of search.store.clauses) (packets_of search) xs name) same ∙ is)
     (λ number one is. subst (λ (xs : List Step). IsStep xs number one) (sym same) is) s
 
 pub more_steps : (search : Search) (steps : Vec Step Global) (step : Step) (cube : List ℕ) → steps.items ≡ search.steps.items ++ step ∷ [] → IsOkStep (table_of search) step → IsSearching search cube → IsSearching (record search { steps = steps }) cube
 more_steps search steps step cube pushed ok s =
-    with_steps search steps cube (subst (λ xs. IsStocked search.store.clauses xs search.bound) (sym pushed) (stock_step search.store.clauses search.steps.items search.bound step s.stock ok))
-    (λ name known is. ap (λ xs. named_by (inputs_of search.store.clauses) xs name) pushed ∙ named_with_step (inputs_of search.store.clauses) search.steps.items step name known is)
+    with_steps search steps cube (subst (λ xs. IsStocked search.store.clauses (packets_of search) xs search.bound) (sym pushed) (stock_step search.store.clauses (packets_of search) search.steps.items search.bound step s.stock ok))
+    (λ name known is. ap (λ xs. named_by (inputs_of search.store.clauses) (packets_of search) xs name) pushed ∙ named_with_step (inputs_of search.store.clauses) (packets_of search) search.steps.items step name known is)
     (λ number one is. subst (λ (xs : List Step). IsStep xs number one) (sym pushed) (subst (λ xs. item_at xs number ≡ Some one) (sym (map_push known_of search.steps.items step)) (item_at-more (map known_of search.steps.items) (known_of step ∷ []) number one is))) s
 
-pub last_named : (search : Search) (steps : Vec Step Global) (step : Step) (number : ℕ) → steps.items ≡ search.steps.items ++ step ∷ [] → number ≡ length steps.items → named_by (inputs_of search.store.clauses) steps.items (Own number) ≡ Some (known_of step)
+pub last_named : (search : Search) (steps : Vec Step Global) (step : Step) (number : ℕ) → steps.items ≡ search.steps.items ++ step ∷ [] → number ≡ length steps.items → named_by (inputs_of search.store.clauses) (packets_of search) steps.items (Own number) ≡ Some (known_of step)
 last_named search steps step number pushed is =
-    ap (λ xs. named_by (inputs_of search.store.clauses) xs (Own number)) pushed
-    ∙ named_last (inputs_of search.store.clauses) search.steps.items step number (omega (arith, is, ap length pushed, length_push search.steps.items step))
+    ap (λ xs. named_by (inputs_of search.store.clauses) (packets_of search) xs (Own number)) pushed
+    ∙ named_last (inputs_of search.store.clauses) (packets_of search) search.steps.items step number (omega (arith, is, ap length pushed, length_push search.steps.items step))
 
 -- each clause is known under its name
 pub name_of_clause : (search : Search) (cube : List ℕ) (id : ℕ) → IsSearching search cube → id < length search.store.clauses

@@ -17,7 +17,7 @@ use Rattle.search_core.specs.declared.search.Search.{Search}
 use Rattle.search_core.specs.Solver.{inputs_of, held_of, named_by, IsStep, clauses_of}
 use Rattle.search_core.specs.OnTrail.{IsOnTrail}
 use Rattle.search_core.specs.Units.{IsNamed}
-use Rattle.search_core.specs.Searching.{IsSearching, HasUnitsMore, AreAllNamed, IsFront, IsSameSolver, table_of}
+use Rattle.search_core.specs.Searching.{IsSearching, packets_of, HasUnitsMore, AreAllNamed, IsFront, IsSameSolver, table_of}
 use Rattle.search_core.proofs.SameClauses.{AreOneByOne, one_by_one, inputs_same, held_same, stock_same}
 use Rattle.search_core.proofs.OnTrails.{propagated_on_trail}
 use Rattle.search_core.proofs.Fronts.{level_at, entry_in}
@@ -36,7 +36,7 @@ pub search_propagated : (s : Search) (cube : List ℕ) (store : StoreView) (trai
     → HasGrown (lits_of_each store.clauses) s.trail.depth s.trail.entries trail.entries → IsFounded (lits_of_each store.clauses) trail.entries s.trail.depth → trail.depth ≡ s.trail.depth → trail.vars ≡ s.trail.vars
     → IsSearching (record s { store = store; trail = trail }) cube
 search_propagated s cube store trail kept same store_vars grown founded depth_is vars_are = record {
-  stock = stock_same s.store.clauses store.clauses s.steps.items s.bound same kept.stock;
+  stock = stock_same s.store.clauses store.clauses (packets_of s) s.steps.items s.bound same kept.stock;
   room = record {
     over = within_same s.greatest s.store.clauses store.clauses same kept.room.over;
     reserved = omega (arith, kept.room.reserved, vars_are);
@@ -52,7 +52,7 @@ search_propagated s cube store trail kept same store_vars grown founded depth_is
   };
   on = subst (λ depth. IsOnTrail (lits_of_each store.clauses) cube trail.entries depth) (sym depth_is)
       (propagated_on_trail s.store.clauses store.clauses cube s.trail.entries trail.entries s.trail.depth same grown founded kept.on);
-  named = subst (λ xs. IsNamed (named_by xs s.steps.items) trail.entries s.units.items s.tags.items s.named) inputs (record {
+  named = subst (λ xs. IsNamed (named_by xs (packets_of s) s.steps.items) trail.entries s.units.items s.tags.items s.named) inputs (record {
     within = omega (arith, kept.named.within, grown.longer);
     zero = λ place lt. ap (λ (e : Entry). e.level) (old_at place lt) ∙ kept.named.zero place lt;
     known = λ place lt. subst (λ (e : Entry). IsNameOf (table_of s) (unit_of s.units.items (variable e.lit)) (e.lit ∷ []) (tag_of_unit s.tags.items (variable e.lit))) (sym (old_at place lt)) (kept.named.known place lt);
@@ -90,6 +90,7 @@ same_twice old mid new a b = record {
   learnt = b.learnt ∙ a.learnt;
   steps = front_twice old.steps.items mid.steps.items new.steps.items a.steps b.steps;
   numbers = (b.numbers.0 ∙ a.numbers.0, b.numbers.1 ∙ a.numbers.1, b.numbers.2 ∙ a.numbers.2);
+  packets = b.packets ∙ a.packets;
   vars = b.vars ∙ a.vars;
 }
 
@@ -100,6 +101,7 @@ same_propagated s cube store trail kept same vars_are = record {
   learnt = refl;
   steps = same_front s.steps.items;
   numbers = (refl, refl, refl);
+  packets = refl;
   vars = vars_are;
 }
 
@@ -111,6 +113,7 @@ same_named s new parts more = record {
   learnt = ap (λ (x : Search). x.learnt.items) parts;
   steps = record { more = more.more; is = more.is };
   numbers = (ap (λ (x : Search). x.greatest) parts, ap (λ (x : Search). x.inputs) parts, ap (λ (x : Search). x.bound) parts);
+  packets = ap packets_of parts;
   vars = ap (λ (x : Search). x.trail.vars) parts;
 }
 
@@ -128,6 +131,7 @@ same_stepped s new parts front = record {
   learnt = ap (λ (x : Search). x.learnt.items) parts;
   steps = front;
   numbers = (ap (λ (x : Search). x.greatest) parts, ap (λ (x : Search). x.inputs) parts, ap (λ (x : Search). x.bound) parts);
+  packets = ap packets_of parts;
   vars = ap (λ (x : Search). x.trail.vars) parts;
 }
 
@@ -138,5 +142,6 @@ same_decided s new parts vars = record {
   learnt = ap (λ (x : Search). x.learnt.items) parts;
   steps = subst (λ (x : List Step). IsFront s.steps.items x) (sym (ap (λ (x : Search). x.steps.items) parts)) (same_front s.steps.items);
   numbers = (ap (λ (x : Search). x.greatest) parts, ap (λ (x : Search). x.inputs) parts, ap (λ (x : Search). x.bound) parts);
+  packets = ap packets_of parts;
   vars = vars;
 }

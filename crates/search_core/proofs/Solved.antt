@@ -1,5 +1,5 @@
 -- What a round did, as its caller sees it.
-use Rattle.std.proofs.Common.{◌≡◌, ◌∙◌, ℕ, ◌≤◌, List, [], ◌∷◌, length, refl, ap, sym, subst, arith}
+use Rattle.std.proofs.Common.{◌≡◌, ◌∙◌, ℕ, ◌≤◌, List, [], ◌∷◌, length, ap, sym, subst, arith}
 use Rattle.std.specs.Prelude.{All, Contains}
 use Rattle.std.proofs.lemmas.List.Elements.{All-contains}
 use Rattle.sat_base.specs.Lit.{IsLit, IsLitSet, IsTautology, variable, greatest_of, greatest_of_all}
@@ -22,7 +22,7 @@ learns_from : (s new : Search) (cube : List ℕ) (more : List Known) → IsSearc
 learns_from s new cube more kept l = record {
   inputs = l.inputs;
   bound = l.numbers.2;
-  packets = refl;
+  packets = l.packets;
   held = l.held;
   names = l.names;
   learnt = l.learnt;

@@ -1,15 +1,16 @@
 -- A search keeps what every solver keeps.
-use Rattle.std.proofs.Common.{ℕ, ◌≤◌, List, filter}
+use Rattle.std.proofs.Common.{◌≡◌, ℕ, ◌≤◌, List, filter, Some}
 use Rattle.std.specs.Prelude.{All, Contains}
 use Rattle.std.proofs.lemmas.List.Elements.{All-map, All-filter}
 use Rattle.sat_base.specs.Truth.{Entails}
 use Rattle.sat_base.proofs.Members.{All-from_members, Contains-map}
+use Rattle.sat_base.specs.declared.origins.Ref.{Ref}
 use Rattle.trace_core.specs.Known.{Known}
-use Rattle.trace_core.specs.Law.{clauses_up_to}
 use Rattle.clause_arena.specs.Arena.{ArenaClause}
+use Rattle.search_core.proofs.Lists.{All-under}
 use Rattle.search_core.specs.declared.search.Search.{Search}
-use Rattle.search_core.specs.Solver.{IsSound, inputs_of, held_of, known_clause, is_input}
-use Rattle.search_core.specs.Searching.{IsSearching, solver_of}
+use Rattle.search_core.specs.Solver.{IsSound, inputs_of, held_of, clauses_of, known_clause, is_input}
+use Rattle.search_core.specs.Searching.{IsSearching, solver_of, table_of}
 
 -- what is kept of a list stands in it
 kept_held : (clauses : List ArenaClause) → All (Contains (held_of clauses)) (inputs_of clauses)
@@ -21,8 +22,12 @@ kept_held clauses =
 pub sound : (search : Search) → (cube : List ℕ) → IsSearching search cube → IsSound (solver_of search)
 sound search cube kept = record {
   inputs_held = kept_held search.store.clauses;
-  entailed = All-map (λ (one : Known). Entails (clauses_up_to (inputs_of search.store.clauses) one.tag) one.clause) known_clause search.store.clauses kept.stock.entailed;
+  named = All-map (λ (one : Known). (name : Ref) × (table_of search name ≡ Some one)) known_clause search.store.clauses
+      (All-under (λ (clause : ArenaClause). table_of search clause.origin ≡ Some (known_clause clause)) (λ clause. (name : Ref) × (table_of search name ≡ Some (known_clause clause))) search.store.clauses
+      (λ clause is. (clause.origin, is)) kept.stock.named);
+  entailed = All-map (λ (one : Known). Entails (clauses_of (inputs_of search.store.clauses)) one.clause) known_clause search.store.clauses kept.stock.entailed;
   bounded = All-map (λ (one : Known). one.tag ≤ search.bound) known_clause search.store.clauses kept.stock.bounded;
   ok = kept.stock.ok;
+  packets_held = kept.stock.packets_held;
   learnt_held = kept.counted.learnt;
 }

@@ -6,6 +6,7 @@ use Rattle.trace_core.specs.declared.derivation.Step.{Step}
 use Rattle.analyze.specs.Learnt.{IsNew}
 use Rattle.search_core.specs.declared.search.Search.{Search}
 use Rattle.search_core.specs.Solver.{inputs_of, held_of}
+use Rattle.search_core.specs.Searching.{packets_of}
 
 -- One clause more: the clause of one more step, which no held clause is within, and which is no tautology and over the variables of
 -- the inputs. It is held from now on, and its step is listed.
@@ -19,4 +20,5 @@ pub record HasLearntOne (old new : Search) : Type 0 where
   pub within : greatest_of step.clause ≤ old.greatest
   pub inputs : inputs_of new.store.clauses ≡ inputs_of old.store.clauses
   pub numbers : (new.greatest ≡ old.greatest) × (new.inputs ≡ old.inputs) × (new.bound ≡ old.bound)
+  pub packets : packets_of new ≡ packets_of old
   pub vars : new.trail.vars ≡ old.trail.vars

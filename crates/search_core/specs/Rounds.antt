@@ -10,7 +10,7 @@ use Rattle.search_core.specs.declared.rounds.Round.TheVariants.{Model, Refuted, 
 use Rattle.search_core.specs.declared.rounds.Descent.{Descent}
 use Rattle.search_core.specs.declared.rounds.Descent.TheVariants.{Conflict, Ended}
 use Rattle.search_core.specs.Solver.{inputs_of, held_of, clauses_of, IsStep}
-use Rattle.search_core.specs.Searching.{IsFront, IsSameSolver, IsConflict}
+use Rattle.search_core.specs.Searching.{IsFront, IsSameSolver, IsConflict, packets_of}
 use Rattle.search_core.specs.Learning.{HasLearntOne}
 use Rattle.search_core.specs.Refutations.{IsRefutation}
 
@@ -48,6 +48,7 @@ pub record HasLearnt (old new : Search) (more : List Known) : Type 0 where
   pub fresh : AreNew (held_of old.store.clauses) more
   pub proper : All (λ one. (IsTautology one.clause → ⊥) × (greatest_of one.clause ≤ old.greatest)) more
   pub numbers : (new.greatest ≡ old.greatest) × (new.inputs ≡ old.inputs) × (new.bound ≡ old.bound)
+  pub packets : packets_of new ≡ packets_of old
   pub vars : new.trail.vars ≡ old.trail.vars
 
 -- one clause was learnt, after steps had come

@@ -1,5 +1,6 @@
 -- What a search keeps between its steps.
-use Rattle.std.specs.Prelude.{◌≡◌, ℕ, ◌<◌, ◌≤◌, List, [], ◌∷◌, ◌++◌, length, All, Contains, Option}
+use Rattle.std.specs.Prelude.{◌≡◌, ℕ, ◌<◌, ◌≤◌, List, [], ◌∷◌, ◌++◌, length, All, Contains, Option, option_map, map}
+use Rattle.std.specs.Arc.{arc_value}
 use Rattle.sat_base.specs.Lit.{greatest_of_all}
 use Rattle.sat_base.specs.declared.origins.Ref.{Ref}
 use Rattle.trace_core.specs.Known.{Known}
@@ -14,9 +15,13 @@ use Rattle.search_core.specs.Stock.{IsStocked}
 use Rattle.search_core.specs.OnTrail.{IsOnTrail}
 use Rattle.search_core.specs.Units.{IsNamed}
 
+-- the packet of each place that is known
+abbrev pub packets_of : Search → List (Option (List Step))
+packets_of search = map (option_map arc_value) search.packets.items
+
 -- what references name to the search
 abbrev pub table_of : Search → Ref → Option Known
-table_of search = named_by (inputs_of search.store.clauses) search.steps.items
+table_of search = named_by (inputs_of search.store.clauses) (packets_of search) search.steps.items
 
 abbrev pub solver_of : Search → Solver
 solver_of search = record {
@@ -25,7 +30,7 @@ solver_of search = record {
   held = held_of search.store.clauses;
   steps = search.steps.items;
   learnt = search.learnt.items;
-  packets = [];
+  packets = packets_of search;
 }
 
 -- The variables of the clauses are reserved everywhere.
@@ -44,7 +49,7 @@ pub record IsCounted (search : Search) : Type 0 where
   pub learnt : All (λ number. (one : Known) × IsStep search.steps.items number one × Contains (held_of search.store.clauses) one) search.learnt.items
 
 pub record IsSearching (search : Search) (cube : List ℕ) : Type 0 where
-  pub stock : IsStocked search.store.clauses search.steps.items search.bound
+  pub stock : IsStocked search.store.clauses (packets_of search) search.steps.items search.bound
   pub room : IsRoomy search
   pub counted : IsCounted search
   pub on : IsOnTrail (lits_of_each search.store.clauses) cube search.trail.entries search.trail.depth
@@ -73,6 +78,7 @@ pub record IsSameSolver (old new : Search) : Type 0 where
   pub learnt : new.learnt.items ≡ old.learnt.items
   pub steps : IsFront old.steps.items new.steps.items
   pub numbers : (new.greatest ≡ old.greatest) × (new.inputs ≡ old.inputs) × (new.bound ≡ old.bound)
+  pub packets : packets_of new ≡ packets_of old
   pub vars : new.trail.vars ≡ old.trail.vars
 
 -- a clause that is false
@@ -85,5 +91,6 @@ pub record HasInputMore (old new : Search) (clause : List ℕ) (tag : ℕ) : Typ
   pub inputs : inputs_of new.store.clauses ≡ inputs_of old.store.clauses ++ record { clause = clause; tag = tag } ∷ []
   pub held : held_of new.store.clauses ≡ held_of old.store.clauses ++ record { clause = clause; tag = tag } ∷ []
   pub bound : new.bound ≡ tag
+  pub packets : packets_of new ≡ packets_of old
   pub steps : new.steps.items ≡ old.steps.items
   pub learnt : new.learnt.items ≡ old.learnt.items

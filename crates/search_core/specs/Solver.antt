@@ -1,5 +1,5 @@
 -- A solver as contracts see it, and what it keeps.
-use Rattle.std.specs.Prelude.{◌≡◌, ℕ, ◌≤◌, nat_lt, ◌==◌, Bool, true, false, if◌then◌else◌, List, [], ◌∷◌, map, filter, All, Contains, Option, None, Some}
+use Rattle.std.specs.Prelude.{◌≡◌, ℕ, ◌≤◌, nat_lt, ◌==◌, Bool, true, false, if◌then◌else◌, List, [], ◌∷◌, length, map, filter, All, Contains, Option, None, Some}
 use Rattle.sat_base.specs.declared.origins.Ref.{Ref}
 use Rattle.sat_base.specs.declared.origins.Ref.TheVariants.{Input, Shared, Own}
 use Rattle.sat_base.specs.Truth.{Entails}
@@ -40,21 +40,32 @@ shared_by packets = map known_in packets
 abbrev pub clauses_of : List Known → List (List ℕ)
 clauses_of knowns = map (λ one. one.clause) knowns
 
--- what a reference names to a solver with these inputs and steps
-abbrev pub named_by : List Known → List Step → Ref → Option Known
-named_by inputs steps = known inputs [] (map known_of steps)
+-- of the packet of a place its last step alone, the one whose clause is held
+abbrev pub last_step_of : Option (Option (List Step)) → ℕ → Option Known
+last_step_of None number = None
+last_step_of (Some None) number = None
+last_step_of (Some (Some packet)) number = if number == length packet then item_at (map known_of packet) number else None
+
+-- what a reference names to a solver with these inputs, packets and steps
+abbrev pub named_by : List Known → List (Option (List Step)) → List Step → Ref → Option Known
+named_by inputs packets steps (Input number) = item_at inputs number
+named_by inputs packets steps (Shared place number) = last_step_of (item_at packets place) number
+named_by inputs packets steps (Own number) = item_at (map known_of steps) number
 
 -- the clause of that own step, counted from 1
 abbrev pub IsStep : List Step → ℕ → Known → Type 0
 IsStep steps number one = item_at (map known_of steps) number ≡ Some one
 
--- What every solver keeps, whatever calls come: each input is held; each held clause follows from the inputs up to its tag, and no
--- tag is above the bound; each own step is ok with exact tag over the inputs and the steps before it; and learnt steps are held.
+-- What every solver keeps, whatever calls come: each input is held; each held clause follows from the inputs, stands under its name,
+-- and has a tag up to the bound; each own step is ok with exact tag over the inputs, the steps of the known packets and the own steps
+-- before it; and learnt steps and the last clauses of the known packets are held.
 pub record IsSound (solver : Solver) : Type 0 where
   pub inputs_held : All (Contains solver.held) solver.inputs
-  pub entailed : All (λ one. Entails (clauses_up_to solver.inputs one.tag) one.clause) solver.held
+  pub named : All (λ one. (name : Ref) × (named_by solver.inputs solver.packets solver.steps name ≡ Some one)) solver.held
+  pub entailed : All (λ one. Entails (clauses_of solver.inputs) one.clause) solver.held
   pub bounded : All (λ one. one.tag ≤ solver.bound) solver.held
   pub ok : AreOkSteps solver.inputs (shared_by solver.packets) [] solver.steps
+  pub packets_held : (place number : ℕ) (one : Known) → last_step_of (item_at solver.packets place) number ≡ Some one → Contains solver.held one
   pub learnt_held : All (λ number. (one : Known) × IsStep solver.steps number one × Contains solver.held one) solver.learnt
 
 -- a clause as a set with its tag

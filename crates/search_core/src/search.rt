@@ -9,7 +9,8 @@ use analyze::Scratch;
 use propagate::Store;
 use sat_base::{Cube, Ref};
 use std::alloc::{AllocError, Global};
-use trace_core::Step;
+use std::sync::Arc;
+use trace_core::{Packet, Step};
 use trail_core::Trail;
 
 /// The parts of a solver. What they keep together is said in `specs/Searching.antt`.
@@ -29,6 +30,8 @@ pub struct Search {
     pub greatest: u32,
     pub inputs: u32,
     pub bound: u32,
+    // The shared packet of each place that is known, places counted from 1.
+    pub packets: Vec<Option<Arc<Packet>>>,
     // The own steps, and the numbers of those that are learnt clauses.
     pub steps: Vec<Step>,
     pub learnt: Vec<u64>,
@@ -53,6 +56,7 @@ impl Search {
             greatest: 0,
             inputs: 0,
             bound: 0,
+            packets: Vec::new(alloc),
             steps: Vec::new(alloc),
             learnt: Vec::new(alloc),
         }

@@ -7,7 +7,7 @@ use Rattle.search_core.specs.Learning.{HasLearntOne}
 use Rattle.trace_core.specs.Trace.{IsOkStep}
 use Rattle.trail_core.specs.Trail.{TrailView, IsTrail, up_to, lits_of}
 use Rattle.search_core.specs.declared.search.Search.{Search}
-use Rattle.search_core.specs.Searching.{IsSearching, table_of}
+use Rattle.search_core.specs.Searching.{IsSearching, packets_of, table_of}
 use Rattle.search_core.proofs.Learnings.{search_back, search_assigned, lesson_open, lesson_forces, learnt_one}
 use Rattle.search_core.proofs.conflicts.learn_from.Goals.{in-Some, in_default}
 use Rattle.search_core.proofs.conflicts.learn_from.Goals as goal
@@ -54,13 +54,13 @@ returns-clause-kept c = elim c.match-lit.branch [
 
 pub returns-clause-ok : goal.returns-clause-ok
 returns-clause-ok c = elim c.match-lit.branch [
-  | in-Some w ↦ one c (record c.hold.new.search { trail = w.assign.new.self }) c.match-lit.search w.search-is refl refl refl refl refl refl (w.assign.ensures.vars)
-  | in_default w ↦ one c c.hold.new.search c.match-lit.search w.search-is refl refl refl refl refl refl refl
+  | in-Some w ↦ one c (record c.hold.new.search { trail = w.assign.new.self }) c.match-lit.search w.search-is refl refl refl refl refl refl refl (w.assign.ensures.vars)
+  | in_default w ↦ one c c.hold.new.search c.match-lit.search w.search-is refl refl refl refl refl refl refl refl
 ]
   where
     one : (c : goal.After-drop-clause-inside-2) (s3 s : Search) → s ≡ s3 → s3.steps ≡ c.hold.new.search.steps → s3.learnt ≡ c.hold.new.search.learnt → s3.store ≡ c.hold.new.search.store
-        → s3.greatest ≡ c.hold.new.search.greatest → s3.inputs ≡ c.hold.new.search.inputs → s3.bound ≡ c.hold.new.search.bound → s3.trail.vars ≡ c.hold.new.search.trail.vars → HasLearntOne c.args.search.now s
-    one c s3 s is steps learnt store greatest inputs bound vars =
+        → s3.greatest ≡ c.hold.new.search.greatest → s3.inputs ≡ c.hold.new.search.inputs → s3.bound ≡ c.hold.new.search.bound → packets_of s3 ≡ packets_of c.hold.new.search → s3.trail.vars ≡ c.hold.new.search.trail.vars → HasLearntOne c.args.search.now s
+    one c s3 s is steps learnt store greatest inputs bound packets vars =
         let old = c.args.search.now in
         let h = c.hold.new.search in
         let p = c.push_step.new.search in
@@ -82,4 +82,5 @@ returns-clause-ok c = elim c.match-lit.branch [
           inputs ∙ ap (λ (x : Search). x.inputs) e3 ∙ ap (λ (x : Search). x.inputs) e1 ∙ ap (λ (x : Search). x.inputs) e0,
           bound ∙ ap (λ (x : Search). x.bound) e3 ∙ ap (λ (x : Search). x.bound) e1 ∙ ap (λ (x : Search). x.bound) e0,
         )
+        (packets ∙ ap packets_of e3 ∙ ap packets_of e1 ∙ ap packets_of e0)
         (vars ∙ ap (λ (x : Search). x.trail.vars) e3 ∙ c.back_to.ensures.vars ∙ ap (λ (x : Search). x.trail.vars) e1 ∙ ap (λ (x : Search). x.trail.vars) e0))

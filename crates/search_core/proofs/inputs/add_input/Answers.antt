@@ -28,4 +28,4 @@ returns-clause-kept c =
 pub returns-clause-ok : goal.returns-clause-ok
 returns-clause-ok c =
     let s = c.reserve.new.search in
-    input_more c.args.search.now s _ c.args.clause.now c.args.tag (s.inputs + 1) c.in_ok-reserve.ensures.solver c.lits-lits.ensures.set c.in_ok-add.ensures.ok refl refl refl
+    input_more c.args.search.now s _ c.args.clause.now c.args.tag (s.inputs + 1) c.in_ok-reserve.ensures.solver c.lits-lits.ensures.set c.in_ok-add.ensures.ok refl refl refl refl
