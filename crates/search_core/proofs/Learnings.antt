@@ -30,6 +30,7 @@ use Rattle.search_core.specs.declared.conflicts.Lesson.{Lesson}
 use Rattle.search_core.specs.Lessons.{IsLesson}
 use Rattle.search_core.specs.Learning.{HasLearntOne}
 use Rattle.search_core.proofs.Lists.{All-push, All-under}
+use Rattle.search_core.proofs.UpTo.{below_greatest, greatest_within}
 use Rattle.search_core.proofs.Stocked.{stock_learnt, inputs_learnt}
 use Rattle.search_core.proofs.Fronts.{level_at, IsFront, Ascends, front_of, up_to_is, up_to_take, entry_in}
 use Rattle.search_core.proofs.OnTrails.{back_on_trail, more_on_trail, forced_on_trail}
@@ -195,20 +196,6 @@ search_assigned s cube trail entry kept entries_are depth_is vars_are level forc
         absurd (omega (arith, here, zero, level, deep, depth_is))
 
 -- Variables of clauses.
-pub below_greatest : (clause : List ℕ) (lit : ℕ) → Contains clause lit → variable lit ≤ greatest_of clause
-below_greatest [] lit (k, lt, is) = absurd (omega (arith, lt))
-below_greatest (x ∷ clause) lit has = elim (Contains-cases x lit clause has) [
-  | inl same ↦ (let e = ap variable same in omega (arith, e))
-  | inr more ↦ (let h = below_greatest clause lit more in omega (arith, h))
-]
-
-pub greatest_within : (clause : List ℕ) (bound : ℕ) → ((lit : ℕ) → Contains clause lit → variable lit ≤ bound) → greatest_of clause ≤ bound
-greatest_within [] bound each = omega arith
-greatest_within (x ∷ clause) bound each =
-    let first = each x (Contains-here x clause) in
-    let rest = greatest_within clause bound (λ lit has. each lit (Contains-there x lit clause has)) in
-    omega (arith, first, rest)
-
 -- the table without clauses of greater variables
 small : ℕ → Option Known → Option Known
 small bound None = None

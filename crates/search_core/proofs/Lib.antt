@@ -1,5 +1,7 @@
 pub mod InOrder
 pub mod Lists
+pub mod Proper
+pub mod UpTo
 pub mod Stocked
 pub mod SameClauses
 pub mod Fronts

@@ -20,7 +20,7 @@ use Rattle.search_core.specs.Models.{IsAssignmentOf}
 use Rattle.search_core.specs.Searching.{IsSearching}
 use Rattle.search_core.proofs.Lists.{Contains-from_filter}
 use Rattle.search_core.proofs.InOrder.{in_order-has}
-use Rattle.search_core.proofs.Learnings.{below_greatest}
+use Rattle.search_core.proofs.UpTo.{below_greatest}
 
 -- membership is decided
 member : (xs : List ℕ) (x : ℕ) → Contains xs x ⊎ (Contains xs x → ⊥)

@@ -18,7 +18,7 @@ use Rattle.search_core.specs.Rounds.{AreNew, AreNamed}
 use Rattle.search_core.specs.Solving.{Learns}
 use Rattle.search_core.proofs.Lists.{All-under}
 use Rattle.search_core.proofs.InOrder.{in_order-ascends, in_order-has}
-use Rattle.search_core.proofs.Learnings.{below_greatest}
+use Rattle.search_core.proofs.UpTo.{below_greatest}
 use Rattle.search_core.proofs.Learning.{named_stay}
 use Rattle.search_core.proofs.Settled.{front_twice, same_front}
 

@@ -26,7 +26,7 @@ use Rattle.search_core.proofs.InOrder.{in_order-itself}
 use Rattle.search_core.proofs.Stocked.{stock_input, named_with_input}
 use Rattle.search_core.proofs.Reasons.{named_stays}
 use Rattle.search_core.proofs.OnTrails.{more_on_trail}
-use Rattle.search_core.proofs.Learnings.{below_greatest}
+use Rattle.search_core.proofs.UpTo.{below_greatest}
 
 -- the greatest variable, literal by literal
 greatest_push : (lits : List ℕ) (lit : ℕ) → greatest_of (lits ++ lit ∷ []) ≡ max (greatest_of lits) (variable lit)
@@ -174,9 +174,11 @@ new_search s cube clauses entries depth vars packets steps learnt named greatest
     named = λ i d lt. absurd (omega (arith, lt));
     entailed = λ i d lt. absurd (omega (arith, lt));
     bounded = λ i d lt. absurd (omega (arith, lt));
+    within = λ i d lt. absurd (omega (arith, lt));
     packets_held = λ place number one is. absurd (none_known (packets_of s) place number one (ap (map (option_map arc_value)) packets) is);
     ok = tt;
     steps_entailed = λ i d lt. absurd (omega (arith, lt));
+    steps_within = λ i d lt. absurd (omega (arith, lt));
     steps_bounded = λ i d lt. absurd (omega (arith, lt));
   }));
   room = record {

@@ -6,11 +6,11 @@ use Rattle.sat_base.specs.Lit.{IsLit}
 use Rattle.sat_base.specs.Truth.{Entails}
 use Rattle.sat_base.proofs.Members.{All-from_members}
 use Rattle.trace_core.specs.Known.{Known}
-use Rattle.trace_core.specs.Trace.{AreOkSteps}
+use Rattle.trace_core.specs.Trace.{AreOkSteps, known_of}
 use Rattle.trace_core.specs.declared.derivation.Step.{Step}
 use Rattle.clause_arena.specs.Arena.{ArenaClause, clause_at}
 use Rattle.propagate.specs.Store.{IsSameClause, HasSameClauses}
-use Rattle.search_core.specs.Solver.{inputs_of, held_of, clauses_of, named_by, shared_by, known_clause, in_order, is_input}
+use Rattle.search_core.specs.Solver.{inputs_of, held_of, clauses_of, named_by, shared_by, known_clause, in_order, is_input, IsWithinItsTag}
 use Rattle.search_core.specs.Stock.{IsStocked}
 use Rattle.search_core.proofs.InOrder.{in_order-same}
 
@@ -89,9 +89,13 @@ stock_same olds news packets steps bound same stock = record {
       (All-one_by_one (λ clause. Entails (clauses_of (inputs_of olds)) (known_clause clause).clause) (λ clause. Entails (clauses_of (inputs_of olds)) (known_clause clause).clause)
       (λ old new one follows. subst (λ (known : Known). Entails (clauses_of (inputs_of olds)) known.clause) one.known follows) olds news pairs stock.entailed);
   bounded = All-one_by_one (λ clause. clause.tag ≤ bound) (λ clause. clause.tag ≤ bound) (λ old new one low. subst (λ (known : Known). known.tag ≤ bound) one.known low) olds news pairs stock.bounded;
+  within = subst (λ inputs. All (λ clause. IsWithinItsTag inputs (known_clause clause)) news) inputs
+      (All-one_by_one (λ clause. IsWithinItsTag (inputs_of olds) (known_clause clause)) (λ clause. IsWithinItsTag (inputs_of olds) (known_clause clause))
+      (λ old new one low. subst (IsWithinItsTag (inputs_of olds)) one.known low) olds news pairs stock.within);
   packets_held = λ place number one is. subst (λ (held : List Known). Contains held one) (held_same olds news pairs) (stock.packets_held place number one is);
   ok = subst (λ inputs. AreOkSteps inputs (shared_by packets) [] steps) inputs stock.ok;
   steps_entailed = subst (λ inputs. All (λ (step : Step). Entails (clauses_of inputs) step.clause) steps) inputs stock.steps_entailed;
+  steps_within = subst (λ inputs. All (λ (step : Step). IsWithinItsTag inputs (known_of step)) steps) inputs stock.steps_within;
   steps_bounded = stock.steps_bounded;
 }
   where

@@ -16,7 +16,7 @@ use Rattle.search_core.specs.Rounds.{HasLearnt, IsOutcome, HasRun}
 use Rattle.search_core.specs.Solving.{Learns, Ends, Solves}
 use Rattle.search_core.proofs.Lists.{All-under, Contains-from_filter}
 use Rattle.search_core.proofs.InOrder.{in_order-has}
-use Rattle.search_core.proofs.Learnings.{greatest_within}
+use Rattle.search_core.proofs.UpTo.{greatest_within, greatest_all_within}
 
 learns_from : (s new : Search) (cube : List ℕ) (more : List Known) → IsSearching s cube → HasLearnt s new more → Learns (solver_of s) (solver_of new) more
 learns_from s new cube more kept l = record {
@@ -45,13 +45,6 @@ solves_from old s new cube limit round kept same run =
       learns = learns_from s new cube run.more kept run.learnt;
       ends = ends_from new cube limit run.more round run.outcome;
     })
-
-greatest_all_within : (clauses : List (List ℕ)) (bound : ℕ) → ((clause : List ℕ) → Contains clauses clause → greatest_of clause ≤ bound) → greatest_of_all clauses ≤ bound
-greatest_all_within [] bound each = omega arith
-greatest_all_within (x ∷ clauses) bound each =
-    let first = each x (Contains-here x clauses) in
-    let rest = greatest_all_within clauses bound (λ clause has. each clause (Contains-there x clause clauses has)) in
-    omega (arith, first, rest)
 
 lit_bound : (lit : ℕ) → IsLit lit → variable lit ≤ 8388607
 lit_bound lit is = omega (arith, is.within)

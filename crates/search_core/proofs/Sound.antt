@@ -9,7 +9,7 @@ use Rattle.trace_core.specs.Known.{Known}
 use Rattle.clause_arena.specs.Arena.{ArenaClause}
 use Rattle.search_core.proofs.Lists.{All-under}
 use Rattle.search_core.specs.declared.search.Search.{Search}
-use Rattle.search_core.specs.Solver.{IsSound, inputs_of, held_of, clauses_of, known_clause, is_input}
+use Rattle.search_core.specs.Solver.{IsSound, inputs_of, held_of, clauses_of, known_clause, is_input, IsWithinItsTag}
 use Rattle.search_core.specs.Searching.{IsSearching, solver_of, table_of}
 
 -- what is kept of a list stands in it
@@ -27,6 +27,8 @@ sound search cube kept = record {
       (λ clause is. (clause.origin, is)) kept.stock.named);
   entailed = All-map (λ (one : Known). Entails (clauses_of (inputs_of search.store.clauses)) one.clause) known_clause search.store.clauses kept.stock.entailed;
   bounded = All-map (λ (one : Known). one.tag ≤ search.bound) known_clause search.store.clauses kept.stock.bounded;
+  within = All-map (IsWithinItsTag (inputs_of search.store.clauses)) known_clause search.store.clauses kept.stock.within;
+  steps_within = kept.stock.steps_within;
   ok = kept.stock.ok;
   packets_held = kept.stock.packets_held;
   learnt_held = kept.counted.learnt;

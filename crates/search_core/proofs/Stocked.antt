@@ -1,23 +1,26 @@
 -- What a solver keeps when a step, a learnt clause or an input comes to it.
-use Rattle.std.proofs.Common.{◌≡◌, ◌∙◌, ℕ, ◌+◌, ◌≤◌, List, [], ◌∷◌, ◌++◌, length, map, filter, Option, None, Some, Bool, true, false, ap, sym, subst, arith}
+use Rattle.std.proofs.Common.{◌≡◌, ◌∙◌, ℕ, ◌+◌, ◌≤◌, List, [], ◌∷◌, ◌++◌, length, map, filter, Option, None, Some, Bool, true, false, inl, inr, ap, sym, subst, arith}
 use Rattle.std.specs.Prelude.{All, Contains, IsTrue, IsSome, ◌==◌, cond, option_map, option_and_then}
 use Rattle.std.proofs.lemmas.List.{map_push, length-map, append-nil, append_assoc}
 use Rattle.std.proofs.lemmas.List.Elements.{All-contains, filter-append, Contains-append_left, Contains-append_right}
 use Rattle.std.proofs.lemmas.Option.{none-some}
-use Rattle.sat_base.specs.Lit.{IsLit, is_ascending}
+use Rattle.sat_base.specs.Lit.{IsLit, IsTautology, is_ascending, opposite, greatest_of_all}
 use Rattle.sat_base.specs.Truth.{Entails, clause_true}
 use Rattle.sat_base.specs.declared.origins.Ref.{Ref}
 use Rattle.sat_base.specs.declared.origins.Ref.TheVariants.{Input, Shared, Own}
 use Rattle.sat_base.proofs.Members.{Contains-here, Contains-map, Contains-from_map, Contains-filter, all_member, all_from_members}
 use Rattle.trace_core.specs.Known.{Known, known, item_at, clause_of, tag_of}
+use Rattle.trace_core.specs.Law.{clauses_up_to}
 use Rattle.trace_core.specs.Trace.{IsOkStep, AreOkSteps, known_of}
 use Rattle.trace_core.specs.declared.derivation.Step.{Step}
-use Rattle.trace_core.proofs.Soundness.{step_is_sound, ok_step_stays_ok, item_at-contains, named_of}
+use Rattle.trace_core.proofs.Soundness.{step_is_sound, ok_step_stays_ok, item_at-contains, named_of, at_most_greatest}
 use Rattle.clause_arena.specs.Arena.{ArenaClause}
-use Rattle.search_core.specs.Solver.{inputs_of, held_of, clauses_of, named_by, shared_by, known_in, last_step_of, known_clause, is_input}
+use Rattle.search_core.specs.Solver.{inputs_of, held_of, clauses_of, named_by, shared_by, known_in, last_step_of, known_clause, is_input, IsWithinItsTag}
 use Rattle.search_core.specs.Stock.{IsStocked}
 use Rattle.search_core.proofs.Lists.{item_at-more, item_at-last, item_at-map, All-push, All-under, greatest_below, Contains-from_filter}
 use Rattle.search_core.proofs.InOrder.{in_order-itself}
+use Rattle.search_core.proofs.Proper.{hints_proper, negation_consistent}
+use Rattle.search_core.proofs.UpTo.{below_greatest, greatest_within, greatest_grows, input_within}
 
 -- A table grows with its inputs and its steps.
 pub named_with_input : (inputs : List Known) (input : Known) (packets : List (Option (List Step))) (steps : List Step) (name : Ref) (one : Known) → named_by inputs packets steps name ≡ Some one → named_by (inputs ++ input ∷ []) packets steps name ≡ Some one
@@ -129,6 +132,29 @@ step_follows inputs table step follows ok values all =
     let one = named_of (table from.0) (All-contains (λ hint. IsSome (table hint)) step.hints from.0 ok.all_known from.1) in
     subst (λ lits. IsTrue (clause_true values lits)) (sym one.2 ∙ from.2) (follows from.0 one.0 one.1 values all)))
 
+-- A step's clause is over the variables of the clauses that its hints name, none of which is a tautology, and their tags are no greater.
+step_within : (clauses : List ArenaClause) (packets : List (Option (List Step))) (steps : List Step) (bound : ℕ) (step : Step) → IsStocked clauses packets steps bound → IsOkStep (named_by (inputs_of clauses) packets steps) step
+    → IsWithinItsTag (inputs_of clauses) (known_of step)
+step_within clauses packets steps bound step stock ok proper = elim ok.proved [
+  | inl excluded ↦ absurd (proper excluded.tautology)
+  | inr derived ↦ greatest_within step.clause most (λ lit has. (let (lits, among, there) = derived.covered lit has in
+      let (hint, hinted, is) = Contains-from_map (λ (hint : Ref). clause_of (table hint)) step.hints lits among in
+      let (one, found, lits_are, tag_is) = named_of (table hint) (All-contains (λ hint. IsSome (table hint)) step.hints hint ok.all_known hinted) in
+      let one_proper : IsTautology one.clause → ⊥ = λ both. hints_proper (map opposite step.clause) (map (λ hint. clause_of (table hint)) step.hints) (negation_consistent step.clause proper) derived.conflict lits among (subst IsTautology (sym lits_are ∙ is) both) in
+      let low = named_has (IsWithinItsTag (inputs_of clauses)) clauses packets steps bound stock stock.within stock.steps_within hint one found one_proper in
+      let tag_low : one.tag ≤ step.tag = subst (λ n. one.tag ≤ n) (sym ok.exact_tag) (at_most_greatest (map (λ hint. tag_of (table hint)) step.hints) one.tag
+          (subst (Contains (map (λ hint. tag_of (table hint)) step.hints)) tag_is (Contains-map (λ (hint : Ref). tag_of (table hint)) step.hints hint hinted))) in
+      let wider = greatest_grows (inputs_of clauses) (inputs_of clauses) one.tag step.tag (λ _ h. h) tag_low in
+      let here = below_greatest one.clause lit (subst (λ (xs : List ℕ). Contains xs lit) (sym is ∙ lits_are) there) in
+      omega (arith, low, wider, here)))
+]
+  where
+    table : Ref → Option Known
+    table = named_by (inputs_of clauses) packets steps
+
+    most : ℕ
+    most = greatest_of_all (clauses_up_to (inputs_of clauses) step.tag)
+
 -- A step that is ok comes behind the others.
 pub stock_step : (clauses : List ArenaClause) (packets : List (Option (List Step))) (steps : List Step) (bound : ℕ) (step : Step) → IsStocked clauses packets steps bound → IsOkStep (named_by (inputs_of clauses) packets steps) step → IsStocked clauses packets (steps ++ step ∷ []) bound
 stock_step clauses packets steps bound step stock ok = record {
@@ -137,11 +163,13 @@ stock_step clauses packets steps bound step stock ok = record {
       (λ clause is. named_with_step (inputs_of clauses) packets steps step clause.origin (known_clause clause) is) stock.named;
   entailed = stock.entailed;
   bounded = stock.bounded;
+  within = stock.within;
   packets_held = stock.packets_held;
   ok = ok_push (inputs_of clauses) (shared_by packets) [] steps step stock.ok
       (ok_step_stays_ok (named_by (inputs_of clauses) packets steps) (known (inputs_of clauses) (shared_by packets) (map known_of steps)) step (named_is_known (inputs_of clauses) packets steps) ok);
   steps_entailed = All-push (λ (one : Step). Entails (clauses_of (inputs_of clauses)) one.clause) steps step stock.steps_entailed
       (step_follows (inputs_of clauses) (named_by (inputs_of clauses) packets steps) step (known_follows clauses packets steps bound stock) ok);
+  steps_within = All-push (λ (one : Step). IsWithinItsTag (inputs_of clauses) (known_of one)) steps step stock.steps_within (step_within clauses packets steps bound step stock ok);
   steps_bounded = All-push (λ (one : Step). one.tag ≤ bound) steps step stock.steps_bounded (step_bounded clauses packets steps bound step stock ok);
 }
 
@@ -166,9 +194,13 @@ stock_learnt clauses packets steps bound step number stock is lits ascending = r
       (All-push (λ clause. Entails (clauses_of (inputs_of clauses)) (known_clause clause).clause) clauses learnt stock.entailed
       (subst (λ (one : Known). Entails (clauses_of (inputs_of clauses)) one.clause) known_is (known_follows clauses packets steps bound stock (Own number) (known_of step) is)));
   bounded = All-push (λ clause. clause.tag ≤ bound) clauses learnt stock.bounded (known_bounded clauses packets steps bound stock (Own number) (known_of step) is);
+  within = subst (λ inputs. All (λ clause. IsWithinItsTag inputs (known_clause clause)) (clauses ++ learnt ∷ [])) (sym same)
+      (All-push (λ clause. IsWithinItsTag (inputs_of clauses) (known_clause clause)) clauses learnt stock.within
+      (subst (IsWithinItsTag (inputs_of clauses)) known_is (named_has (IsWithinItsTag (inputs_of clauses)) clauses packets steps bound stock stock.within stock.steps_within (Own number) (known_of step) is)));
   packets_held = λ place name one found. held_push clauses learnt one (stock.packets_held place name one found);
   ok = subst (λ inputs. AreOkSteps inputs (shared_by packets) [] steps) (sym same) stock.ok;
   steps_entailed = subst (λ inputs. All (λ one. Entails (clauses_of inputs) one.clause) steps) (sym same) stock.steps_entailed;
+  steps_within = subst (λ inputs. All (λ one. IsWithinItsTag inputs (known_of one)) steps) (sym same) stock.steps_within;
   steps_bounded = stock.steps_bounded;
 }
   where
@@ -198,11 +230,17 @@ stock_input clauses packets steps bound tag number clause stock le last lits asc
       (λ one follows. follows_with_input (inputs_of clauses) (known_clause input) (known_clause one).clause follows) stock.entailed)
       (input_follows inputs (known_clause input) (Contains-append_right (inputs_of clauses) (known_clause input ∷ []) (known_clause input) (Contains-here (known_clause input) []))));
   bounded = All-push (λ one. one.tag ≤ tag) clauses input (All-under (λ one. one.tag ≤ bound) (λ one. one.tag ≤ tag) clauses (λ one low. omega (arith, low, le)) stock.bounded) (omega arith);
+  within = subst (λ inputs. All (λ one. IsWithinItsTag inputs (known_clause one)) (clauses ++ input ∷ [])) (sym more)
+      (All-push (λ one. IsWithinItsTag inputs (known_clause one)) clauses input
+      (All-under (λ one. IsWithinItsTag (inputs_of clauses) (known_clause one)) (λ one. IsWithinItsTag inputs (known_clause one)) clauses (λ one low. within_more (known_clause one) low) stock.within)
+      (λ _. input_within inputs (known_clause input) (Contains-append_right (inputs_of clauses) (known_clause input ∷ []) (known_clause input) (Contains-here (known_clause input) []))));
   packets_held = λ place name one found. held_push clauses input one (stock.packets_held place name one found);
   ok = subst (λ inputs. AreOkSteps inputs (shared_by packets) [] steps) (sym more) (ok_with_input (inputs_of clauses) (shared_by packets) [] (known_clause input) steps stock.ok);
   steps_entailed = subst (λ inputs. All (λ one. Entails (clauses_of inputs) one.clause) steps) (sym more)
       (All-under (λ (one : Step). Entails (clauses_of (inputs_of clauses)) one.clause) (λ one. Entails (clauses_of inputs) one.clause) steps
       (λ one follows. follows_with_input (inputs_of clauses) (known_clause input) one.clause follows) stock.steps_entailed);
+  steps_within = subst (λ inputs. All (λ one. IsWithinItsTag inputs (known_of one)) steps) (sym more)
+      (All-under (λ (one : Step). IsWithinItsTag (inputs_of clauses) (known_of one)) (λ one. IsWithinItsTag inputs (known_of one)) steps (λ one low. within_more (known_of one) low) stock.steps_within);
   steps_bounded = All-under (λ (one : Step). one.tag ≤ bound) (λ one. one.tag ≤ tag) steps (λ one low. omega (arith, low, le)) stock.steps_bounded;
 }
   where
@@ -211,6 +249,12 @@ stock_input clauses packets steps bound tag number clause stock le last lits asc
 
     inputs : List Known
     inputs = inputs_of clauses ++ known_clause input ∷ []
+
+    within_more : (one : Known) → IsWithinItsTag (inputs_of clauses) one → IsWithinItsTag inputs one
+    within_more one low proper =
+        let wider = greatest_grows (inputs_of clauses) inputs one.tag one.tag (λ x h. Contains-append_left (inputs_of clauses) (known_clause input ∷ []) x h) (omega arith) in
+        let was = low proper in
+        omega (arith, wider, was)
 
     more : inputs_of (clauses ++ input ∷ []) ≡ inputs
     more = ap (map known_clause) (filter-append (λ (one : ArenaClause). is_input one.origin) clauses (input ∷ []))

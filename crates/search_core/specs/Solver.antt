@@ -2,6 +2,7 @@
 use Rattle.std.specs.Prelude.{◌≡◌, ℕ, ◌≤◌, nat_lt, ◌==◌, Bool, true, false, if◌then◌else◌, List, [], ◌∷◌, length, map, filter, All, Contains, Option, None, Some}
 use Rattle.sat_base.specs.declared.origins.Ref.{Ref}
 use Rattle.sat_base.specs.declared.origins.Ref.TheVariants.{Input, Shared, Own}
+use Rattle.sat_base.specs.Lit.{IsTautology, greatest_of, greatest_of_all}
 use Rattle.sat_base.specs.Truth.{Entails}
 use Rattle.trace_core.specs.Known.{Known, known, item_at}
 use Rattle.trace_core.specs.Law.{clauses_up_to}
@@ -56,14 +57,20 @@ named_by inputs packets steps (Own number) = item_at (map known_of steps) number
 abbrev pub IsStep : List Step → ℕ → Known → Type 0
 IsStep steps number one = item_at (map known_of steps) number ≡ Some one
 
+-- The variables of the clause, where it is no tautology, are at most the greatest one of the inputs up to its tag.
+abbrev pub IsWithinItsTag : List Known → Known → Type 0
+IsWithinItsTag inputs one = (IsTautology one.clause → ⊥) → greatest_of one.clause ≤ greatest_of_all (clauses_up_to inputs one.tag)
+
 -- What every solver keeps, whatever calls come: each input is held; each held clause follows from the inputs, stands under its name,
--- and has a tag up to the bound; each own step is ok with exact tag over the inputs, the steps of the known packets and the own steps
+-- has a tag up to the bound, and has no greater variable than the inputs up to its tag; each own step is ok with exact tag over the inputs, the steps of the known packets and the own steps
 -- before it; and learnt steps and the last clauses of the known packets are held.
 pub record IsSound (solver : Solver) : Type 0 where
   pub inputs_held : All (Contains solver.held) solver.inputs
   pub named : All (λ one. (name : Ref) × (named_by solver.inputs solver.packets solver.steps name ≡ Some one)) solver.held
   pub entailed : All (λ one. Entails (clauses_of solver.inputs) one.clause) solver.held
   pub bounded : All (λ one. one.tag ≤ solver.bound) solver.held
+  pub within : All (IsWithinItsTag solver.inputs) solver.held
+  pub steps_within : All (λ step. IsWithinItsTag solver.inputs (known_of step)) solver.steps
   pub ok : AreOkSteps solver.inputs (shared_by solver.packets) [] solver.steps
   pub packets_held : (place number : ℕ) (one : Known) → last_step_of (item_at solver.packets place) number ≡ Some one → Contains solver.held one
   pub learnt_held : All (λ number. (one : Known) × IsStep solver.steps number one × Contains solver.held one) solver.learnt

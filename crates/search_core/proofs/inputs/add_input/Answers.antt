@@ -4,7 +4,7 @@ use Rattle.sat_base.proofs.Members.{All-from_members}
 use Rattle.propagate.specs.Store.{StoreView}
 use Rattle.search_core.specs.Solver.{Solver}
 use Rattle.search_core.specs.Searching.{IsSearching}
-use Rattle.search_core.proofs.Learnings.{below_greatest}
+use Rattle.search_core.proofs.UpTo.{below_greatest}
 use Rattle.search_core.proofs.Reserved.{search_input, input_more}
 use Rattle.search_core.proofs.inputs.add_input.Goals as goal
 

@@ -1,7 +1,7 @@
 use Rattle.std.proofs.Common.{◌≤◌, arith}
 use Rattle.sat_base.specs.Lit.{variable}
 use Rattle.sat_base.proofs.Members.{All-from_members}
-use Rattle.search_core.proofs.Learnings.{below_greatest}
+use Rattle.search_core.proofs.UpTo.{below_greatest}
 use Rattle.search_core.proofs.Settled.{same_stepped}
 use Rattle.search_core.proofs.Modelled.{model_of}
 use Rattle.search_core.proofs.rounds.follow.Goals as goal
