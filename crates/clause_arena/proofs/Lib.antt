@@ -1,4 +1,5 @@
 pub mod Tabulated
 pub mod Laid
+pub mod Front
 pub mod Swapped
 pub mod NameLists

@@ -1,6 +1,6 @@
 //! Clauses in one block of memory.
 
-ghost use Rattle.std.specs.Prelude.{◌≡◌, ℕ, ◌<◌, List, [], ◌∷◌, ◌++◌, length, All, IfOk, OnOk, OnErr};
+ghost use Rattle.std.specs.Prelude.{◌≡◌, ℕ, ◌<◌, List, [], ◌∷◌, ◌++◌, length, take, All, IfOk, OnOk, OnErr};
 ghost use Rattle.clause_arena.specs.Arena.{HasNoRepeat, clause_at, with_places_swapped};
 ghost use Rattle.clause_arena.specs.Layout.{begun};
 
@@ -114,13 +114,25 @@ impl Arena {
         let start = self.bounds[id] as usize;
         self.lits.swap(start + i, start + j);
     }
+
+    /// Takes back the clauses behind the first `len`. Where there are no more than that, nothing changes.
+    /// Takes no memory.
+    pub fn truncate(&mut self, len: usize)
+        ensures { self.new ≡ take len self.old }
+    {
+        // What then stands behind the last bound goes with the next `add`.
+        if len < self.bounds.len() {
+            self.bounds.truncate(len + 1);
+        }
+    }
 }
 
-// The first bound, where there is none.
+// The first bound, where there is none, and room for two: an `add` then ends with no want of memory.
 fn begin(bounds: &mut Vec<u32>) -> Result<(), AllocError>
     ensures ok { OnOk result (bounds.new.items ≡ begun bounds.old.items) }
     ensures err { OnErr result (bounds.new.items ≡ bounds.old.items) }
 {
+    bounds.reserve(2)?;
     if bounds.is_empty() {
         bounds.push(0)?;
     }
@@ -177,6 +189,39 @@ mod tests {
             assert_eq!(rt; arena.tag(id), tag);
             assert_eq!(rt; arena.origin(id), origin);
         }
+        Ok(())
+    }
+
+    #[test]
+    fn clauses_are_taken_back_and_added_anew(rt: HostRuntime) -> Result<(), Fail> {
+        let alloc = rt.alloc();
+        let mut arena = Arena::new(alloc);
+        arena.truncate(0);
+        let numbers = [1, 2, 3].as_slice();
+        for tag in 1..4 {
+            let _ = arena.add(&clause(alloc, numbers)?, tag, Ref::Own(4_294_967_296))?;
+        }
+        for (len, left) in [(4, 3), (3, 3), (1, 1)] {
+            arena.truncate(len);
+            assert_eq!(rt; arena.len(), left);
+        }
+        let added = clause(alloc, &[-4])?;
+        assert_eq!(rt; arena.add(&added, 9, Ref::Own(4_294_967_297))?, 1);
+        let rows = [
+            (0, 1, Ref::Own(4_294_967_296), numbers),
+            (1, 9, Ref::Own(4_294_967_297), [-4].as_slice()),
+        ];
+        for (id, tag, origin, numbers) in rows {
+            assert!(rt; id < arena.len());
+            assert_eq!(rt; arena.tag(id), tag);
+            assert_eq!(rt; arena.origin(id), origin);
+            assert_eq!(rt; arena.lits(id).len(), numbers.len());
+            for (lit, number) in arena.lits(id).iter().zip(numbers) {
+                assert_eq!(rt; lit.number(), *number);
+            }
+        }
+        arena.truncate(0);
+        assert_eq!(rt; arena.len(), 0);
         Ok(())
     }
 }

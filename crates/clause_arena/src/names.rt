@@ -107,8 +107,10 @@ impl Names {
         ensures ok { OnOk result (self.new ≡ self.old ++ record { tag = tag; origin = origin } ∷ []) }
         ensures err { OnErr result (self.new ≡ self.old) }
     {
+        // First the room: a name that is listed stays there.
+        self.names.reserve(1)?;
         let origin = origin_in(&mut self.listed, origin)?;
-        self.names.push(Name { origin, tag })?;
+        self.names.push_reserved(Name { origin, tag });
         Ok(())
     }
 }

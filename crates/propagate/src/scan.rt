@@ -217,4 +217,26 @@ mod tests {
         }
         Ok(())
     }
+    // What only a clause that was taken back would force isn't forced.
+    #[test]
+    fn clauses_that_were_taken_back_force_nothing(rt: HostRuntime) -> Result<(), Fail> {
+        let alloc = rt.alloc();
+        let mut store = Store::new(alloc);
+        let mut trail = Trail::new(alloc);
+        store.reserve(VARS)?;
+        trail.reserve(VARS)?;
+        let _ = add(&rt, alloc, &mut store, &[1, 2])?;
+        let _ = add(&rt, alloc, &mut store, &[3])?;
+        store.truncate(3);
+        assert_eq!(rt; store.arena().len(), 2);
+        store.truncate(1);
+        assert_eq!(rt; add(&rt, alloc, &mut store, &[4])?, 1);
+        assert_eq!(rt; run(&mut store, &mut trail), None);
+        let forced = Lit::of(4).expect(&rt, "a literal");
+        assert_eq!(rt; trail.lits().len(), 1);
+        assert_eq!(rt; trail.value(forced), Some(true));
+        store.truncate(0);
+        assert_eq!(rt; store.arena().len(), 0);
+        Ok(())
+    }
 }

@@ -1,6 +1,7 @@
 //! A store of clauses.
 
-ghost use Rattle.std.specs.Prelude.{◌≡◌, ◌+◌, ◌<◌, ◌≤◌, max, [], ◌∷◌, ◌++◌, length, IfOk, OnOk, OnErr};
+ghost use Rattle.std.specs.Prelude.{◌≡◌, ◌+◌, ◌<◌, ◌≤◌, nat_lt, max, [], ◌∷◌, ◌++◌, length, take, IfOk, OnOk, OnErr};
+ghost use Rattle.std.specs.List.{filter};
 ghost use Rattle.propagate.specs.Store.{AreWithin, AreAllWithin};
 
 use clause_arena::Arena;
@@ -61,6 +62,16 @@ impl Store {
         ensures err { OnErr result (self.new ≡ self.old) }
     {
         self.arena.add(clause, tag, origin)
+    }
+
+    /// Takes back the clauses behind the first `len`. Where there are no more than that, nothing changes.
+    /// Takes no memory.
+    pub fn truncate(&mut self, len: usize)
+        ensures clauses { self.new.clauses ≡ take len self.old.clauses }
+        ensures fresh { self.new.fresh ≡ filter (λ id. nat_lt id len) self.old.fresh }
+        ensures vars { self.new.vars ≡ self.old.vars }
+    {
+        self.arena.truncate(len);
     }
 
     /// The clauses.
