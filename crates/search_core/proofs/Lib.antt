@@ -20,6 +20,7 @@ pub mod Descents
 pub mod Modelled
 pub mod Learning
 pub mod Reserved
+pub mod Loaded
 pub mod Solved
 pub mod Sound
 pub mod Repeats

@@ -19,7 +19,7 @@ use Rattle.search_core.specs.Solver.{Solver, inputs_of, held_of, last_step_of, n
 use Rattle.search_core.specs.Stock.{IsStocked}
 use Rattle.search_core.specs.OnTrail.{IsOnTrail}
 use Rattle.search_core.specs.Units.{IsNamed}
-use Rattle.search_core.specs.Searching.{IsSearching, HasInputMore, packets_of, solver_of, table_of}
+use Rattle.search_core.specs.Searching.{IsSearching, packets_of, solver_of, table_of}
 use Rattle.trace_core.specs.declared.derivation.Step.{Step}
 use Rattle.search_core.proofs.Lists.{All-push, All-under}
 use Rattle.search_core.proofs.InOrder.{in_order-itself}
@@ -41,7 +41,7 @@ greatest_more lits i lit so_far now lt is before step =
 pub greatest_whole : (lits : List ℕ) (i so_far : ℕ) → length lits ≤ i → so_far ≡ greatest_of (take i lits) → so_far ≡ greatest_of lits
 greatest_whole lits i so_far le is = is ∙ ap greatest_of (take_all i lits le)
 
-greatest_all_push : (clauses : List (List ℕ)) (clause : List ℕ) → greatest_of_all (clauses ++ clause ∷ []) ≡ max (greatest_of_all clauses) (greatest_of clause)
+pub greatest_all_push : (clauses : List (List ℕ)) (clause : List ℕ) → greatest_of_all (clauses ++ clause ∷ []) ≡ max (greatest_of_all clauses) (greatest_of clause)
 greatest_all_push [] clause = omega arith
 greatest_all_push (x ∷ clauses) clause = ap (max (greatest_of x)) (greatest_all_push clauses clause) ∙ (let e : max (greatest_of x) (max (greatest_of_all clauses) (greatest_of clause)) ≡ max (max (greatest_of x) (greatest_of_all clauses)) (greatest_of clause) = omega arith in e)
 
@@ -144,19 +144,6 @@ search_input s cube clause store tag number greatest most kept zero set le last 
 
     held : held_of store.clauses ≡ held_of s.store.clauses ++ one ∷ []
     held = ap held_of added ∙ map_push known_clause s.store.clauses input ∙ ap (λ x. held_of s.store.clauses ++ x ∷ []) known_is
-
-pub input_more : (old s new : Search) (clause : List ℕ) (tag number : ℕ) → solver_of s ≡ solver_of old → IsLitSet clause → new.store.clauses ≡ s.store.clauses ++ record { lits = clause; tag = tag; origin = Input number } ∷ []
-    → new.bound ≡ tag → packets_of new ≡ packets_of s → new.steps ≡ s.steps → new.learnt ≡ s.learnt → HasInputMore old new clause tag
-input_more old s new clause tag number solver set added bound packets steps learnt = record {
-  inputs = inputs_more s.store.clauses new.store.clauses clause tag number set added ∙ ap (λ (x : Solver). x.inputs ++ record { clause = clause; tag = tag } ∷ []) solver;
-  held = ap held_of added ∙ map_push known_clause s.store.clauses (record { lits = clause; tag = tag; origin = Input number })
-      ∙ ap (λ lits. held_of s.store.clauses ++ record { clause = lits; tag = tag } ∷ []) (in_order-itself clause set.ascending)
-      ∙ ap (λ (x : Solver). x.held ++ record { clause = clause; tag = tag } ∷ []) solver;
-  bound = bound;
-  packets = packets ∙ ap (λ (x : Solver). x.packets) solver;
-  steps = ap (λ (x : Vec Step Global). x.items) steps ∙ ap (λ (x : Solver). x.steps) solver;
-  learnt = ap (λ (x : Vec ℕ Global). x.items) learnt ∙ ap (λ (x : Solver). x.learnt) solver;
-}
 
 -- without places none is known
 none_known : (packets : List (Option (List Step))) (place number : ℕ) (one : Known) → packets ≡ [] → last_step_of (item_at packets place) number ≡ Some one → ⊥

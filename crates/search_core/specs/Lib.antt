@@ -6,6 +6,7 @@ pub mod Searching
 pub mod Moves
 pub mod Models
 pub mod Learning
+pub mod Loading
 pub mod Lessons
 pub mod Refutations
 pub mod Rounds

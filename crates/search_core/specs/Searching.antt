@@ -85,12 +85,3 @@ pub record IsSameSolver (old new : Search) : Type 0 where
 pub record IsConflict (search : Search) (id : ℕ) : Type 0 where
   pub known : id < length search.store.clauses
   pub refuted : IsFalseClause (lits_of search.trail.entries) (clause_at search.store.clauses id).lits
-
--- one more input, which is held
-pub record HasInputMore (old new : Search) (clause : List ℕ) (tag : ℕ) : Type 0 where
-  pub inputs : inputs_of new.store.clauses ≡ inputs_of old.store.clauses ++ record { clause = clause; tag = tag } ∷ []
-  pub held : held_of new.store.clauses ≡ held_of old.store.clauses ++ record { clause = clause; tag = tag } ∷ []
-  pub bound : new.bound ≡ tag
-  pub packets : packets_of new ≡ packets_of old
-  pub steps : new.steps.items ≡ old.steps.items
-  pub learnt : new.learnt.items ≡ old.learnt.items

@@ -23,7 +23,7 @@ mod tests;
 mod unit_steps;
 
 pub use answering::{Answer, solve_until_answered};
-pub use inputs::{add_input, reserve};
+pub use inputs::{load, reserve};
 pub use laws::a_search_is_sound;
 pub use rounds::Round;
 pub use search::Search;

@@ -3,7 +3,7 @@
 ghost use Rattle.std.specs.Prelude.{◌≡◌};
 ghost use Rattle.search_core.specs.Searching.{IsSearching};
 
-use crate::{Round, Search, add_input, solve};
+use crate::{Round, Search, load, solve};
 use sat_base::{Clause, Cube, Lit};
 use std::alloc::{AllocError, Global};
 use std::process::Abort;
@@ -17,7 +17,7 @@ fn lits(alloc: Global, rt: &impl Abort, numbers: &[i32]) -> Result<Vec<Lit>, All
     Ok(lits)
 }
 
-// Adds an input of the first job.
+// Adds an input, as a job of its own.
 fn add(
     alloc: Global,
     rt: &impl Abort,
@@ -32,9 +32,9 @@ fn add(
 {
     let clause = Clause::from_lits(alloc, &lits(alloc, rt, numbers)?)?;
     let _ = search.trail.depth();
-    assert!(rt; search.bound <= 1);
+    assert!(rt; search.bound < 1_048_576);
     assert!(rt; search.inputs < 16_777_216);
-    add_input(search, cube, &clause, 1)
+    load(search, cube, &[clause])
 }
 
 // Three pigeons in two holes.
