@@ -21,6 +21,7 @@ pub mod Modelled
 pub mod Learning
 pub mod Reserved
 pub mod Loaded
+pub mod Taken
 pub mod Solved
 pub mod Sound
 pub mod Repeats

@@ -1,6 +1,6 @@
 -- A search for which variables are reserved, and that takes an input.
 use Rattle.std.proofs.Common.{◌≡◌, ◌∙◌, ℕ, ◌+◌, ◌-◌, ◌<◌, ◌≤◌, List, [], ◌∷◌, ◌++◌, length, map, filter, take, max, Option, None, Some, Bool, true, false, ap, sym, subst, arith, get_or, Vec, Global}
-use Rattle.std.specs.Prelude.{All, Contains, ◌==◌, cond, slice_get, option_map}
+use Rattle.std.specs.Prelude.{All, Contains, ◌==◌, cond, slice_get, option_map, option_and_then}
 use Rattle.std.specs.Arc.{arc_value}
 use Rattle.std.proofs.lemmas.Option.{none-some}
 use Rattle.std.proofs.lemmas.List.{take_all, take_more, get_or-take, length-take, map_push, length_push}
@@ -15,7 +15,7 @@ use Rattle.trail_core.specs.Trail.{Entry, TrailView, IsTrail, entry_at, no_entry
 use Rattle.propagate.specs.Store.{StoreView, AreWithin, AreAllWithin}
 use Rattle.analyze.specs.Table.{IsNameOf, unit_of, tag_of_unit}
 use Rattle.search_core.specs.declared.search.Search.{Search}
-use Rattle.search_core.specs.Solver.{Solver, inputs_of, held_of, last_step_of, named_by, IsStep, known_clause, clauses_of, is_input}
+use Rattle.search_core.specs.Solver.{Solver, inputs_of, held_of, packet_at, last_step_of, named_by, IsStep, known_clause, clauses_of, is_input}
 use Rattle.search_core.specs.Stock.{IsStocked}
 use Rattle.search_core.specs.OnTrail.{IsOnTrail}
 use Rattle.search_core.specs.Units.{IsNamed}
@@ -146,10 +146,10 @@ search_input s cube clause store tag number greatest most kept zero set le last 
     held = ap held_of added ∙ map_push known_clause s.store.clauses input ∙ ap (λ x. held_of s.store.clauses ++ x ∷ []) known_is
 
 -- without places none is known
-none_known : (packets : List (Option (List Step))) (place number : ℕ) (one : Known) → packets ≡ [] → last_step_of (item_at packets place) number ≡ Some one → ⊥
-none_known packets place number one none is = at (place == 0) (subst (λ (xs : List (Option (List Step))). last_step_of (item_at xs place) number ≡ Some one) none is)
+none_known : (packets : List (Option (List Step))) (place number : ℕ) (one : Known) → packets ≡ [] → last_step_of (packet_at packets place) number ≡ Some one → ⊥
+none_known packets place number one none is = at (place == 0) (subst (λ (xs : List (Option (List Step))). last_step_of (packet_at xs place) number ≡ Some one) none is)
   where
-    at : (b : Bool) → last_step_of (cond b None (slice_get [] (place - 1))) number ≡ Some one → ⊥
+    at : (b : Bool) → last_step_of (option_and_then (λ packet. packet) (cond b None (slice_get [] (place - 1)))) number ≡ Some one → ⊥
     at true is = none-some one is
     at false is = none-some one is
 

@@ -15,7 +15,7 @@ use Rattle.trace_core.specs.Trace.{IsOkStep, AreOkSteps, known_of}
 use Rattle.trace_core.specs.declared.derivation.Step.{Step}
 use Rattle.trace_core.proofs.Soundness.{step_is_sound, ok_step_stays_ok, item_at-contains, named_of, at_most_greatest}
 use Rattle.clause_arena.specs.Arena.{ArenaClause}
-use Rattle.search_core.specs.Solver.{inputs_of, held_of, clauses_of, named_by, shared_by, known_in, last_step_of, known_clause, is_input, IsWithinItsTag}
+use Rattle.search_core.specs.Solver.{inputs_of, held_of, clauses_of, named_by, shared_by, known_in, packet_at, last_step_of, known_clause, is_input, IsWithinItsTag}
 use Rattle.search_core.specs.Stock.{IsStocked}
 use Rattle.search_core.proofs.Lists.{item_at-more, item_at-last, item_at-map, All-push, All-under, greatest_below, Contains-from_filter}
 use Rattle.search_core.proofs.InOrder.{in_order-itself}
@@ -58,10 +58,10 @@ ok_with_input inputs shared own input (step ∷ steps) ok = (
 )
 
 -- The last step of a known packet is one of the packet's steps.
-last_is_shared : (packets : List (Option (List Step))) (own : List Known) (inputs : List Known) (place number : ℕ) (one : Known) → last_step_of (item_at packets place) number ≡ Some one → known inputs (shared_by packets) own (Shared place number) ≡ Some one
+last_is_shared : (packets : List (Option (List Step))) (own : List Known) (inputs : List Known) (place number : ℕ) (one : Known) → last_step_of (packet_at packets place) number ≡ Some one → known inputs (shared_by packets) own (Shared place number) ≡ Some one
 last_is_shared packets own inputs place number one is = subst (λ (found : Option (List Known)). option_and_then (λ steps. item_at steps number) found ≡ Some one) (sym (item_at-map known_in packets place)) (at (item_at packets place) is)
   where
-    at : (found : Option (Option (List Step))) → last_step_of found number ≡ Some one → option_and_then (λ steps. item_at steps number) (option_map known_in found) ≡ Some one
+    at : (found : Option (Option (List Step))) → last_step_of (option_and_then (λ packet. packet) found) number ≡ Some one → option_and_then (λ steps. item_at steps number) (option_map known_in found) ≡ Some one
     at None is = absurd (none-some one is)
     at (Some None) is = absurd (none-some one is)
     at (Some (Some packet)) is = by_test (number == length packet) is
@@ -179,7 +179,7 @@ inputs_learnt clauses lits tag number =
     ap (map known_clause) (filter-append (λ (clause : ArenaClause). is_input clause.origin) clauses (record { lits = lits; tag = tag; origin = Own number } ∷ []) ∙ append-nil (filter (λ (clause : ArenaClause). is_input clause.origin) clauses))
 
 -- What was held stays so.
-held_push : (clauses : List ArenaClause) (more : ArenaClause) (one : Known) → Contains (held_of clauses) one → Contains (held_of (clauses ++ more ∷ [])) one
+pub held_push : (clauses : List ArenaClause) (more : ArenaClause) (one : Known) → Contains (held_of clauses) one → Contains (held_of (clauses ++ more ∷ [])) one
 held_push clauses more one has = subst (λ (held : List Known). Contains held one) (sym (map_push known_clause clauses more)) (Contains-append_left (held_of clauses) (known_clause more ∷ []) one has)
 
 -- A learnt clause, the clause of a step, comes to be held.

@@ -6,6 +6,7 @@ use Rattle.sat_base.specs.Lit.{variable, greatest_of, greatest_of_all}
 use Rattle.sat_base.proofs.Members.{Contains-here, Contains-there, Contains-cases, Contains-map, Contains-from_map, Contains-filter}
 use Rattle.trace_core.specs.Known.{Known}
 use Rattle.trace_core.specs.Law.{clauses_up_to}
+use Rattle.search_core.specs.Solver.{clauses_of}
 use Rattle.search_core.proofs.Lists.{Contains-passes}
 
 pub below_greatest : (clause : List ℕ) (lit : ℕ) → Contains clause lit → variable lit ≤ greatest_of clause
@@ -47,6 +48,12 @@ up_to_more inputs more low high clause grows le has =
   where
     within : (tag : ℕ) → IsTrue (nat_le tag low) → IsTrue (nat_le tag high)
     within tag h = grind (arith, nat_tests)
+
+-- what counts up to a tag counts among all
+pub among_inputs : (inputs : List Known) (tag : ℕ) (clause : List ℕ) → Contains (clauses_up_to inputs tag) clause → Contains (clauses_of inputs) clause
+among_inputs inputs tag clause has =
+    let m = Contains-from_map (λ (one : Known). one.clause) (filter (λ one. nat_le one.tag tag) inputs) clause has in
+    subst (Contains (clauses_of inputs)) m.2 (Contains-map (λ (one : Known). one.clause) inputs m.0 (Contains-passes (λ (one : Known). nat_le one.tag tag) inputs m.0 m.1).0)
 
 pub greatest_grows : (inputs more : List Known) (low high : ℕ) → ((one : Known) → Contains inputs one → Contains more one) → low ≤ high → greatest_of_all (clauses_up_to inputs low) ≤ greatest_of_all (clauses_up_to more high)
 greatest_grows inputs more low high grows le =

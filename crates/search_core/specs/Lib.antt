@@ -7,6 +7,7 @@ pub mod Moves
 pub mod Models
 pub mod Learning
 pub mod Loading
+pub mod Sharing
 pub mod Lessons
 pub mod Refutations
 pub mod Rounds

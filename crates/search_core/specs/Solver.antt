@@ -1,5 +1,5 @@
 -- A solver as contracts see it, and what it keeps.
-use Rattle.std.specs.Prelude.{◌≡◌, ℕ, ◌≤◌, nat_lt, ◌==◌, Bool, true, false, if◌then◌else◌, List, [], ◌∷◌, length, map, filter, All, Contains, Option, None, Some}
+use Rattle.std.specs.Prelude.{◌≡◌, ℕ, ◌≤◌, nat_lt, ◌==◌, Bool, true, false, if◌then◌else◌, List, [], ◌∷◌, length, map, filter, All, Contains, Option, None, Some, option_and_then}
 use Rattle.sat_base.specs.declared.origins.Ref.{Ref}
 use Rattle.sat_base.specs.declared.origins.Ref.TheVariants.{Input, Shared, Own}
 use Rattle.sat_base.specs.Lit.{IsTautology, greatest_of, greatest_of_all}
@@ -41,16 +41,19 @@ shared_by packets = map known_in packets
 abbrev pub clauses_of : List Known → List (List ℕ)
 clauses_of knowns = map (λ one. one.clause) knowns
 
--- of the packet of a place its last step alone, the one whose clause is held
-abbrev pub last_step_of : Option (Option (List Step)) → ℕ → Option Known
+-- the packet of a place, counted from 1, if the place is known
+abbrev pub packet_at : List (Option (List Step)) → ℕ → Option (List Step)
+packet_at packets place = option_and_then (λ found. found) (item_at packets place)
+
+-- of a packet its last step alone, the one whose clause is held
+abbrev pub last_step_of : Option (List Step) → ℕ → Option Known
 last_step_of None number = None
-last_step_of (Some None) number = None
-last_step_of (Some (Some packet)) number = if number == length packet then item_at (map known_of packet) number else None
+last_step_of (Some packet) number = if number == length packet then item_at (map known_of packet) number else None
 
 -- what a reference names to a solver with these inputs, packets and steps
 abbrev pub named_by : List Known → List (Option (List Step)) → List Step → Ref → Option Known
 named_by inputs packets steps (Input number) = item_at inputs number
-named_by inputs packets steps (Shared place number) = last_step_of (item_at packets place) number
+named_by inputs packets steps (Shared place number) = last_step_of (packet_at packets place) number
 named_by inputs packets steps (Own number) = item_at (map known_of steps) number
 
 -- the clause of that own step, counted from 1
@@ -72,7 +75,7 @@ pub record IsSound (solver : Solver) : Type 0 where
   pub within : All (IsWithinItsTag solver.inputs) solver.held
   pub steps_within : All (λ step. IsWithinItsTag solver.inputs (known_of step)) solver.steps
   pub ok : AreOkSteps solver.inputs (shared_by solver.packets) [] solver.steps
-  pub packets_held : (place number : ℕ) (one : Known) → last_step_of (item_at solver.packets place) number ≡ Some one → Contains solver.held one
+  pub packets_held : (place number : ℕ) (one : Known) → last_step_of (packet_at solver.packets place) number ≡ Some one → Contains solver.held one
   pub learnt_held : All (λ number. (one : Known) × IsStep solver.steps number one × Contains solver.held one) solver.learnt
 
 -- a clause as a set with its tag

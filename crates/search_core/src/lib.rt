@@ -17,6 +17,7 @@ mod refuting;
 mod rounds;
 mod search;
 mod settling;
+mod sharing;
 mod solving;
 #[cfg(test)]
 mod tests;
@@ -27,4 +28,5 @@ pub use inputs::{load, reserve};
 pub use laws::a_search_is_sound;
 pub use rounds::Round;
 pub use search::Search;
+pub use sharing::take_in;
 pub use solving::solve;
