@@ -61,9 +61,9 @@ pub record HasUnitsMore (old new : List Step) : Type 0 where
   pub is : new ≡ old ++ more
   pub units : All (λ step. length step.clause ≡ 1) more
 
--- these steps come first
-pub record IsFront (old new : List Step) : Type 0 where
-  pub more : List Step
+-- these come first
+pub record IsFront {X : Type 0} (old new : List X) : Type 0 where
+  pub more : List X
   pub is : new ≡ old ++ more
 
 -- The same inputs, held clauses and learnt steps, after which own steps may have come.

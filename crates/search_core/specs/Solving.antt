@@ -10,6 +10,16 @@ use Rattle.search_core.specs.Searching.{IsFront}
 use Rattle.search_core.specs.Rounds.{AreNew, AreNamed}
 use Rattle.search_core.specs.Refutations.{IsRefutation}
 
+-- What no call takes away, whatever its answer: the inputs, the bound and the packets stay, and held clauses, own steps and learnt
+-- steps come behind those that were there.
+pub record Keeps (old new : Solver) : Type 0 where
+  pub inputs : new.inputs ≡ old.inputs
+  pub bound : new.bound ≡ old.bound
+  pub packets : new.packets ≡ old.packets
+  pub held : IsFront old.held new.held
+  pub steps : IsFront old.steps new.steps
+  pub learnt : IsFront old.learnt new.learnt
+
 -- These clauses were learnt, in order, and nothing else changed but that own steps came: each is held, is the clause of a step that is
 -- listed as learnt, contains no clause that was held before or learnt earlier, is no tautology, and is over the variables of the inputs.
 pub record Learns (old new : Solver) (more : List Known) : Type 0 where

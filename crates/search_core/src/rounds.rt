@@ -4,10 +4,11 @@ ghost use Rattle.std.specs.Prelude.{◌≡◌, ◌+◌, ◌<◌, ◌≤◌, leng
 ghost use Rattle.trail_core.specs.Trail.{IsTrail, lits_of};
 ghost use Rattle.trail_core.specs.UnderTrail.{IsComplete};
 ghost use Rattle.clause_arena.specs.Arena.{lits_of_each};
-ghost use Rattle.search_core.specs.Searching.{IsSearching, AreAllNamed, IsSameSolver, IsConflict};
+ghost use Rattle.search_core.specs.Searching.{IsSearching, AreAllNamed, IsSameSolver, IsConflict, solver_of};
 ghost use Rattle.search_core.specs.Learning.{HasLearntOne};
 ghost use Rattle.search_core.specs.Moves.{IsDecidable};
 ghost use Rattle.search_core.specs.Rounds.{AreVariables, IsAnswer, IsDescent, HasLearntNext, HasRun};
+ghost use Rattle.search_core.specs.Solving.{Keeps};
 
 use crate::conflicts::learn_from;
 use crate::models::assignment;
@@ -50,6 +51,7 @@ pub(crate) fn run_round(
     requires trail { IsTrail search.old.trail }
     requires fits { AreVariables search.old cube.now vars }
     ensures kept { IsSearching search.new cube.now }
+    ensures keeps { Keeps (solver_of search.old) (solver_of search.new) }
     ensures round { IfOk result (HasRun search.old search.new cube.now limit) }
 {
     let mut count = 0;
@@ -68,6 +70,7 @@ fn step(search: &mut Search, cube: &Cube, vars: u32) -> Result<Option<Round>, Al
     requires trail { IsTrail search.old.trail }
     requires fits { AreVariables search.old cube.now vars }
     ensures kept { IsSearching search.new cube.now }
+    ensures keeps { Keeps (solver_of search.old) (solver_of search.new) }
     ensures trail { OnOk result (IsTrail search.new.trail) }
     ensures ends { IfOk result (λ end. IfSome end (λ round. IsSameSolver search.old search.new × IsAnswer search.new cube.now round)) }
     ensures learns { IfOk result (λ end. IfNone end (HasLearntNext search.old search.new)) }
@@ -87,6 +90,7 @@ fn meet_conflict(search: &mut Search, cube: &Cube, id: usize) -> Result<Option<R
     requires trail { IsTrail search.old.trail }
     requires conflict { IsConflict search.old id }
     ensures kept { IsSearching search.new cube.now }
+    ensures keeps { Keeps (solver_of search.old) (solver_of search.new) }
     ensures trail { OnOk result (IsTrail search.new.trail) }
     ensures ends { IfOk result (λ end. IfSome end (λ round. IsSameSolver search.old search.new × IsAnswer search.new cube.now round)) }
     ensures learns { IfOk result (λ end. IfNone end (HasLearntOne search.old search.new)) }
