@@ -14,6 +14,7 @@ pub mod Assignments
 pub mod Learnings
 pub mod Refuted
 pub mod Settled
+pub mod Steps
 pub mod Descents
 pub mod Modelled
 pub mod Learning

@@ -1,9 +1,12 @@
-use Rattle.std.proofs.Common.{◌≤◌, arith}
+use Rattle.std.proofs.Common.{◌≤◌, [], ap, sym, subst, arith}
 use Rattle.sat_base.specs.Lit.{variable}
 use Rattle.sat_base.proofs.Members.{All-from_members}
 use Rattle.search_core.proofs.Learnings.{below_greatest}
 use Rattle.search_core.proofs.Settled.{same_stepped}
 use Rattle.search_core.proofs.Modelled.{model_of}
+use Rattle.search_core.proofs.Steps.{none_steps}
+use Rattle.search_core.specs.declared.search.Search.{Search}
+use Rattle.search_core.specs.Searching.{HasStepsMore}
 use Rattle.search_core.proofs.rounds.follow.Goals as goal
 
 pub next_move-requires-clause-within : goal.next_move-requires-clause-within
@@ -19,3 +22,11 @@ returns-in_ok-part-in-Blame-clause-same c = same_stepped c.args.search.now c.ref
 pub returns-in_ok-model-in-Stop-clause-ends : goal.returns-in_ok-model-in-Stop-clause-ends
 returns-in_ok-model-in-Stop-clause-ends c =
     model_of c.args.search.now c.args.cube.now c.args.vars c.in_ok-model-in-Stop.model c.requires.kept c.requires.trail c.requires.fits.set c.requires.fits.are c.requires.complete c.in-Stop.ensures c.in_ok-model-in-Stop.ensures
+
+pub returns-in-Decide-clause-steps : goal.returns-in-Decide-clause-steps
+returns-in-Decide-clause-steps c =
+    let steps = c.args.search.now.steps.items in
+    subst (λ xs. HasStepsMore steps xs []) (sym (ap (λ (x : Search). x.steps.items) c.decide.ensures.parts)) (none_steps steps)
+
+pub returns-in_ok-model-in-Stop-clause-steps : goal.returns-in_ok-model-in-Stop-clause-steps
+returns-in_ok-model-in-Stop-clause-steps c = none_steps c.args.search.now.steps.items
