@@ -10,6 +10,7 @@ pub mod UnitSteps
 pub mod Reasons
 pub mod Searches
 pub mod Choices
+pub mod Least
 pub mod Assignments
 pub mod Learnings
 pub mod Refuted

@@ -4,6 +4,8 @@ use Rattle.sat_base.proofs.Members.{All-from_members}
 use Rattle.search_core.proofs.Learnings.{below_greatest}
 use Rattle.search_core.proofs.Settled.{same_stepped}
 use Rattle.search_core.proofs.Modelled.{model_of}
+use Rattle.clause_arena.specs.Arena.{lits_of_each}
+use Rattle.search_core.proofs.OnTrails.{choices_of}
 use Rattle.search_core.proofs.Steps.{none_steps}
 use Rattle.search_core.specs.declared.search.Search.{Search}
 use Rattle.search_core.specs.Searching.{HasStepsMore}
@@ -12,6 +14,11 @@ use Rattle.search_core.proofs.rounds.follow.Goals as goal
 pub next_move-requires-clause-within : goal.next_move-requires-clause-within
 next_move-requires-clause-within c =
     All-from_members (λ lit. variable lit ≤ c.args.vars) c.args.cube.now (λ lit has. (let low = below_greatest c.args.cube.now lit has in omega (arith, low, c.requires.fits.are)))
+
+pub next_move-requires-clause-choices : goal.next_move-requires-clause-choices
+next_move-requires-clause-choices c =
+    let s = c.args.search.now in
+    choices_of (lits_of_each s.store.clauses) c.args.cube.now s.trail.entries s.trail.depth c.requires.kept.on
 
 pub returns-in_err-part-in-Blame-clause-same : goal.returns-in_err-part-in-Blame-clause-same
 returns-in_err-part-in-Blame-clause-same c = same_stepped c.args.search.now c.refute_literal.new.search c.in_err-part-in-Blame.ensures.parts c.in_err-part-in-Blame.ensures.steps
