@@ -1,13 +1,13 @@
 -- Fronts of a trail.
 use Rattle.std.proofs.Common.{◌≡◌, ◌∙◌, ℕ, zero, suc, ◌+◌, ◌<◌, ◌≤◌, List, [], ◌∷◌, ◌++◌, length, take, drop, filter, Bool, false, ap, sym, subst, inl, inr, arith}
-use Rattle.std.specs.Prelude.{◌⊎◌, All, Contains, nat_le}
+use Rattle.std.specs.Prelude.{◌⊎◌, All, nat_le}
 use Rattle.std.proofs.lemmas.Bool.{cases_lt, lt-leb}
 use Rattle.std.proofs.lemmas.List.{append-nil, take-append-drop, get_or-drop, length-drop, get_or-take, take-take, length-take-le}
 use Rattle.std.proofs.lemmas.List.Elements.{All-from_get_or, filter-append}
 use Rattle.trail_core.specs.Trail.{Entry, no_entry, entry_at, lits_of, up_to}
 use Rattle.trail_core.specs.UnderTrail.{IsForced, IsFounded, IsComplete, IsOpenClause}
 use Rattle.trail_core.proofs.Levels.{filter_none, up_to_front}
-use Rattle.search_core.specs.OnTrail.{IsForcedAtZero, IsForCube}
+use Rattle.search_core.specs.OnTrail.{IsForcedAtZero, IsForCube, IsChoice}
 
 abbrev pub level_at : List Entry → ℕ → ℕ
 level_at entries place = (entry_at entries place).level
@@ -109,10 +109,8 @@ cube_take cube entries n within for_cube = record {
       let place_in : place < n = omega (arith, lt, length-take-le n entries within) in
       let same = entry_in entries n place place_in in
       let was = for_cube.each place (omega (arith, place_in, within)) (subst (λ (e : Entry). 0 < e.level) same above) (ap (λ (e : Entry). e.reason) (sym same) ∙ free) in
-      elim was [
-        | inl of_cube ↦ inl (subst (λ (e : Entry). Contains cube e.lit) (sym same) of_cube)
-        | inr all_true ↦ inr (subst (λ (es : List Entry). (lit : ℕ) → Contains cube lit → Contains (lits_of es) lit) (sym (front_in entries n place (omega (arith, place_in)))) all_true)
-      ];
+      subst (λ (es : List Entry). IsChoice cube (lits_of es) (entry_at (take n entries) place).lit) (sym (front_in entries n place (omega (arith, place_in))))
+      (subst (λ (e : Entry). IsChoice cube (lits_of (take place entries)) e.lit) (sym same) was);
 }
 
 pub founded_front : (clauses : List (List ℕ)) (entries : List Entry) (depth level n : ℕ) → IsFounded clauses entries depth → IsFront entries level n → level ≤ depth → IsFounded clauses (take n entries) level

@@ -12,14 +12,14 @@ use Rattle.clause_arena.specs.Arena.{ArenaClause, clause_at, no_clause}
 use Rattle.analyze.specs.Learnt.{IsNew}
 use Rattle.search_core.specs.declared.search.Search.{Search}
 use Rattle.search_core.specs.Solver.{held_of, known_clause, IsStep}
-use Rattle.search_core.specs.Searching.{IsFront, IsSameSolver}
+use Rattle.search_core.specs.Searching.{HasStepsMore, IsFront, IsSameSolver}
 use Rattle.search_core.specs.Learning.{HasLearntOne}
 use Rattle.search_core.specs.declared.rounds.Round.{Round}
 use Rattle.search_core.specs.declared.rounds.Round.TheVariants.{Model, Refuted, Paused}
 use Rattle.search_core.specs.Rounds.{ContainsNone, AreNew, AreNamed, HasLearnt, HasLearntNext, IsAnswer, IsOutcome}
 use Rattle.search_core.proofs.Lists.{All-push, item_at-more, item_at-last}
 use Rattle.search_core.proofs.InOrder.{in_order-has}
-use Rattle.search_core.proofs.Settled.{front_twice, same_front}
+use Rattle.search_core.proofs.Steps.{none_steps, pushed_steps, steps_behind}
 
 -- named steps stay where more come
 step_stays : (old new : List Step) (number : ℕ) (one : Known) → IsFront old new → IsStep old number one → IsStep new number one
@@ -51,14 +51,14 @@ contains_none clauses step new = All-from_get_or (λ (other : Known). All (Conta
     new id id_in (All-from_members (Contains step.clause) (clause_at clauses id).lits (λ lit has.
     All-contains (Contains step.clause) (known_clause (clause_at clauses id)).clause lit (subst (λ (other : Known). All (Contains step.clause) other.clause) is inside) ((in_order-has (clause_at clauses id).lits lit).1 has))))
 
-pub learnt_none : (s : Search) → HasLearnt s s []
+pub learnt_none : (s : Search) → HasLearnt s s [] []
 learnt_none s = record {
   inputs = refl;
   held = sym (append-nil (held_of s.store.clauses));
   names = [];
   learnt = sym (append-nil s.learnt.items);
   named = tt;
-  steps = same_front s.steps.items;
+  steps = none_steps s.steps.items;
   fresh = tt;
   proper = λ i d lt. absurd (omega (arith, lt));
   numbers = (refl, refl, refl);
@@ -66,14 +66,14 @@ learnt_none s = record {
   vars = refl;
 }
 
-pub learnt_same : (old mid new : Search) (more : List Known) → HasLearnt old mid more → IsSameSolver mid new → HasLearnt old new more
-learnt_same old mid new more a b = record {
+pub learnt_same : (old mid new : Search) (more : List Known) (last : List ℕ) → HasLearnt old mid more [] → IsSameSolver mid new → HasStepsMore mid.steps.items new.steps.items last → HasLearnt old new more last
+learnt_same old mid new more last a b steps = record {
   inputs = b.inputs ∙ a.inputs;
   held = b.held ∙ a.held;
   names = a.names;
   learnt = b.learnt ∙ a.learnt;
   named = named_stay mid.steps.items new.steps.items a.names more b.steps a.named;
-  steps = front_twice old.steps.items mid.steps.items new.steps.items a.steps b.steps;
+  steps = steps_behind old.steps.items mid.steps.items new.steps.items a.names last a.steps steps;
   fresh = a.fresh;
   proper = a.proper;
   numbers = (b.numbers.0 ∙ a.numbers.0, b.numbers.1 ∙ a.numbers.1, b.numbers.2 ∙ a.numbers.2);
@@ -81,14 +81,15 @@ learnt_same old mid new more a b = record {
   vars = b.vars ∙ a.vars;
 }
 
-pub learnt_more : (old mid new : Search) (more : List Known) → HasLearnt old mid more → (one : HasLearntOne mid new) → HasLearnt old new (more ++ known_of one.step ∷ [])
+pub learnt_more : (old mid new : Search) (more : List Known) → HasLearnt old mid more [] → (one : HasLearntOne mid new) → HasLearnt old new (more ++ known_of one.step ∷ []) []
 learnt_more old mid new more a one = record {
   inputs = one.inputs ∙ a.inputs;
   held = one.held ∙ ap (λ (xs : List Known). xs ++ known_of one.step ∷ []) a.held ∙ append_assoc (held_of old.store.clauses) more (known_of one.step ∷ []);
   names = a.names ++ length new.steps.items ∷ [];
   learnt = one.learnt ∙ ap (λ (xs : List ℕ). xs ++ length new.steps.items ∷ []) a.learnt ∙ append_assoc old.learnt.items a.names (length new.steps.items ∷ []);
   named = named_push new.steps.items a.names more (length new.steps.items) (known_of one.step) (named_stay mid.steps.items new.steps.items a.names more front a.named) last;
-  steps = front_twice old.steps.items mid.steps.items new.steps.items a.steps front;
+  steps = subst (HasStepsMore old.steps.items new.steps.items) (sym (append-nil (a.names ++ length new.steps.items ∷ [])))
+      (steps_behind old.steps.items mid.steps.items new.steps.items a.names (length new.steps.items ∷ []) a.steps (pushed_steps mid.steps.items new.steps.items one.step (length new.steps.items) one.steps refl));
   fresh = new_push (held_of old.store.clauses) more (known_of one.step) a.fresh (subst (λ (xs : List Known). ContainsNone xs (known_of one.step)) a.held (contains_none mid.store.clauses one.step one.fresh));
   proper = All-push (λ (x : Known). (IsTautology x.clause → ⊥) × (greatest_of x.clause ≤ old.greatest)) more (known_of one.step) a.proper (one.proper, omega (arith, one.within, a.numbers.0));
   numbers = (one.numbers.0 ∙ a.numbers.0, one.numbers.1 ∙ a.numbers.1, one.numbers.2 ∙ a.numbers.2);
@@ -112,8 +113,11 @@ outcome_of s cube limit more Paused right lt = absurd right
 pub ended_of : (s new : Search) (cube : List ℕ) (found : Option Round) (round : Round) → found ≡ Some round → IfSome found (λ r. IsSameSolver s new × IsAnswer new cube r) → IsSameSolver s new × IsAnswer new cube round
 ended_of s new cube found round is some = subst (λ o. IfSome o (λ r. IsSameSolver s new × IsAnswer new cube r)) is some
 
+pub some_of : (found : Option Round) (round : Round) (P : Round → Type 0) → found ≡ Some round → IfSome found P → P round
+some_of found round P is some = subst (λ o. IfSome o P) is some
+
 pub next_of : (found : Option Round) (P : Type 0) → found ≡ None → IfNone found P → P
 next_of found P is none = subst (λ o. IfNone o P) is none
 
-pub next_learnt : (old mid new : Search) (found : Option Round) → IsSameSolver old mid → found ≡ None → IfNone found (HasLearntOne mid new) → HasLearntNext old new
-next_learnt old mid new found same is none = record { mid = mid; same = same; one = next_of found (HasLearntOne mid new) is none }
+pub next_learnt : (old mid new : Search) (found : Option Round) → IsSameSolver old mid → HasStepsMore old.steps.items mid.steps.items [] → found ≡ None → IfNone found (HasLearntOne mid new) → HasLearntNext old new
+next_learnt old mid new found same steps is none = record { mid = mid; same = same; steps = steps; one = next_of found (HasLearntOne mid new) is none }

@@ -12,10 +12,12 @@ pub mod UnitSteps
 pub mod Reasons
 pub mod Searches
 pub mod Choices
+pub mod Least
 pub mod Assignments
 pub mod Learnings
 pub mod Refuted
 pub mod Settled
+pub mod Steps
 pub mod Descents
 pub mod Modelled
 pub mod Learning

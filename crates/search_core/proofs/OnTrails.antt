@@ -1,6 +1,6 @@
 -- How a trail stands after each step of a search.
 use Rattle.std.proofs.Common.{◌≡◌, ◌≢◌, ◌∙◌, ℕ, ◌+◌, ◌<◌, ◌≤◌, List, [], ◌∷◌, ◌++◌, length, take, None, refl, ap, sym, subst, inl, inr, arith}
-use Rattle.std.specs.Prelude.{◌⊎◌, All, Contains}
+use Rattle.std.specs.Prelude.{◌⊎◌, All}
 use Rattle.std.proofs.lemmas.Bool.{cases_lt}
 use Rattle.std.proofs.lemmas.Option.{none-some}
 use Rattle.std.proofs.lemmas.List.{length_push, get_or_push, get_or_append_left, take-append-le, take_at}
@@ -9,7 +9,8 @@ use Rattle.trail_core.specs.Trail.{Entry, no_entry, entry_at, lits_of, up_to}
 use Rattle.trail_core.specs.UnderTrail.{IsForced, IsFounded, IsComplete, IsOpenClause, HasGrown}
 use Rattle.propagate.specs.Store.{HasSameClauses}
 use Rattle.propagate.proofs.Grown.{founded_push}
-use Rattle.search_core.specs.OnTrail.{IsForcedAtZero, IsCompleteBelow, IsForCube, IsOnTrail}
+use Rattle.search_core.specs.OnTrail.{IsForcedAtZero, IsCompleteBelow, IsForCube, IsChoice, IsOnTrail}
+use Rattle.search_core.specs.Moves.{AreChoices}
 use Rattle.search_core.proofs.Fronts.{level_at, Ascends, front_of, up_to_is, complete_take, complete_untake, zero_take, cube_take, founded_front, entry_in, front_in}
 use Rattle.search_core.proofs.Forcing.{forced_same, complete_same, founded_more, zero_more, complete_more}
 
@@ -48,21 +49,21 @@ zero_push clauses entries entry zero_ok one = record { forced = λ place lt leve
         (subst (λ (es : List Entry). IsForced clauses es entry) (sym (take_at entries (entry ∷ []) place (sym last)))
         (one (ap (λ (e : Entry). e.level) (sym (new_entry entries entry place last)) ∙ level)))
 
-cube_push : (cube : List ℕ) (entries : List Entry) (entry : Entry) → IsForCube cube entries → (entry.reason ≡ None → Contains cube entry.lit ⊎ ((lit : ℕ) → Contains cube lit → Contains (lits_of entries) lit)) → IsForCube cube (entries ++ entry ∷ [])
+cube_push : (cube : List ℕ) (entries : List Entry) (entry : Entry) → IsForCube cube entries → (entry.reason ≡ None → IsChoice cube (lits_of entries) entry.lit) → IsForCube cube (entries ++ entry ∷ [])
 cube_push cube entries entry for_cube one = record { each = λ place lt above free. at place lt above free (cases_lt place (length entries)) }
   where
     at : (place : ℕ) → place < length (entries ++ entry ∷ []) → 0 < level_at (entries ++ entry ∷ []) place → (entry_at (entries ++ entry ∷ []) place).reason ≡ None → (place < length entries) ⊎ (length entries ≤ place)
-        → Contains cube (entry_at (entries ++ entry ∷ []) place).lit ⊎ ((lit : ℕ) → Contains cube lit → Contains (lits_of (take place (entries ++ entry ∷ []))) lit)
+        → IsChoice cube (lits_of (take place (entries ++ entry ∷ []))) (entry_at (entries ++ entry ∷ []) place).lit
     at place lt above free (inl old) =
         let same = old_entry entries entry place old in
-        subst (λ (es : List Entry). Contains cube (entry_at (entries ++ entry ∷ []) place).lit ⊎ ((lit : ℕ) → Contains cube lit → Contains (lits_of es) lit)) (sym (old_front entries entry place (omega (arith, old))))
-        (subst (λ (e : Entry). Contains cube e.lit ⊎ ((lit : ℕ) → Contains cube lit → Contains (lits_of (take place entries)) lit)) (sym same)
+        subst (λ (es : List Entry). IsChoice cube (lits_of es) (entry_at (entries ++ entry ∷ []) place).lit) (sym (old_front entries entry place (omega (arith, old))))
+        (subst (λ (e : Entry). IsChoice cube (lits_of (take place entries)) e.lit) (sym same)
         (for_cube.each place old (subst (λ (e : Entry). 0 < e.level) same above) (ap (λ (e : Entry). e.reason) (sym same) ∙ free)))
     at place lt above free (inr new) =
         let last : place ≡ length entries = omega (arith, lt, new, length_push entries entry) in
         let same = new_entry entries entry place last in
-        subst (λ (es : List Entry). Contains cube (entry_at (entries ++ entry ∷ []) place).lit ⊎ ((lit : ℕ) → Contains cube lit → Contains (lits_of es) lit)) (sym (take_at entries (entry ∷ []) place (sym last)))
-        (subst (λ (e : Entry). Contains cube e.lit ⊎ ((lit : ℕ) → Contains cube lit → Contains (lits_of entries) lit)) (sym same)
+        subst (λ (es : List Entry). IsChoice cube (lits_of es) (entry_at (entries ++ entry ∷ []) place).lit) (sym (take_at entries (entry ∷ []) place (sym last)))
+        (subst (λ (e : Entry). IsChoice cube (lits_of entries) e.lit) (sym same)
         (one (ap (λ (e : Entry). e.reason) (sym same) ∙ free)))
 
 -- where an entry at the depth comes, what was complete below stays so
@@ -84,7 +85,7 @@ forced_on_trail clauses cube entries depth entry on forced level = record {
 
 -- a decision on a new level
 pub decided_on_trail : (clauses : List (List ℕ)) (cube : List ℕ) (entries : List Entry) (depth lit : ℕ) → All (λ e. e.level ≤ depth) entries → IsComplete entries depth clauses
-    → Contains cube lit ⊎ ((other : ℕ) → Contains cube other → Contains (lits_of entries) other) → IsOnTrail clauses cube entries depth
+    → IsChoice cube (lits_of entries) lit → IsOnTrail clauses cube entries depth
     → IsOnTrail clauses cube (entries ++ record { lit = lit; level = depth + 1; reason = None } ∷ []) (depth + 1)
 decided_on_trail clauses cube entries depth lit low complete allowed on = record {
   founded = record {
@@ -143,6 +144,14 @@ decided_on_trail clauses cube entries depth lit low complete allowed on = record
         (subst (λ (es : List Entry). IsComplete es level clauses) (sym (take_at entries (entry ∷ []) (length entries) refl))
         (elim which [ inl lower ↦ on.below.each level lower | inr here ↦ subst (λ n. IsComplete entries n clauses) (omega (arith, here, lt)) complete ]))
 
+-- a literal of level 0 is no decision
+pub choices_of : (clauses : List (List ℕ)) (cube : List ℕ) (entries : List Entry) (depth : ℕ) → IsOnTrail clauses cube entries depth → AreChoices cube entries
+choices_of clauses cube entries depth on place lt free = at (cases_lt 0 (level_at entries place))
+  where
+    at : (0 < level_at entries place) ⊎ (level_at entries place ≤ 0) → IsChoice cube (lits_of (take place entries)) (entry_at entries place).lit
+    at (inl above) = on.for_cube.each place lt above free
+    at (inr low) = let forced = on.zero.forced place lt (omega (arith, low)) in absurd (none-some forced.id (sym free ∙ forced.reason))
+
 -- a new clause that is open at each level below the depth
 pub more_on_trail : (clauses : List (List ℕ)) (clause cube : List ℕ) (entries : List Entry) (depth : ℕ) → ((level : ℕ) → level < depth → IsOpenClause (lits_of (up_to level entries)) clause) → IsOnTrail clauses cube entries depth → IsOnTrail (clauses ++ clause ∷ []) cube entries depth
 more_on_trail clauses clause cube entries depth each on = record {
@@ -182,10 +191,10 @@ propagated_on_trail olds news cube old new depth same grown founded on = record 
         (forced_same olds news (take place old) (entry_at old place) same (on.zero.forced place before (ap (λ (e : Entry). e.level) (sym (entry_same place before)) ∙ level))))
     zero_at place lt level (inr behind) = grown.forced place behind lt
 
-    cube_at : (place : ℕ) → place < length new → 0 < level_at new place → (entry_at new place).reason ≡ None → (place < n) ⊎ (n ≤ place) → Contains cube (entry_at new place).lit ⊎ ((lit : ℕ) → Contains cube lit → Contains (lits_of (take place new)) lit)
+    cube_at : (place : ℕ) → place < length new → 0 < level_at new place → (entry_at new place).reason ≡ None → (place < n) ⊎ (n ≤ place) → IsChoice cube (lits_of (take place new)) (entry_at new place).lit
     cube_at place lt above free (inl before) =
         let here = entry_same place before in
-        subst (λ (es : List Entry). Contains cube (entry_at new place).lit ⊎ ((lit : ℕ) → Contains cube lit → Contains (lits_of es) lit)) (sym (front_same place (omega (arith, before))))
-        (subst (λ (e : Entry). Contains cube e.lit ⊎ ((lit : ℕ) → Contains cube lit → Contains (lits_of (take place old)) lit)) (sym here)
+        subst (λ (es : List Entry). IsChoice cube (lits_of es) (entry_at new place).lit) (sym (front_same place (omega (arith, before))))
+        (subst (λ (e : Entry). IsChoice cube (lits_of (take place old)) e.lit) (sym here)
         (on.for_cube.each place before (subst (λ (e : Entry). 0 < e.level) here above) (ap (λ (e : Entry). e.reason) (sym here) ∙ free)))
     cube_at place lt above free (inr behind) = absurd (none-some (grown.forced place behind lt).id (sym free ∙ (grown.forced place behind lt).reason))

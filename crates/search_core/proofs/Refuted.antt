@@ -3,7 +3,7 @@ use Rattle.std.proofs.Common.{◌≡◌, ◌∙◌, ℕ, List, [], ◌∷◌, le
 use Rattle.std.specs.Prelude.{◌⊎◌, ◌↔◌, All, Contains, nat_le}
 use Rattle.std.proofs.lemmas.List.Elements.{All-contains}
 use Rattle.sat_base.specs.Lit.{opposite, variable}
-use Rattle.sat_base.specs.Truth.{Entails, clause_true, all_true}
+use Rattle.sat_base.specs.Truth.{Entails, clause_true}
 use Rattle.sat_base.specs.declared.origins.Ref.TheVariants.{Own}
 use Rattle.sat_base.proofs.Members.{All-from_members, Contains-map, Contains-from_map, all_member, all_from_members}
 use Rattle.sat_base.proofs.Opposite.{Contains-negations, variable-opposite}
@@ -54,7 +54,7 @@ part_within trail cube part lit is for_cube whole stands fails = All-from_member
     at other (inl same) = subst (Contains cube) (sym same) stands
     at other (inr d) = elim (for_cube.each d.place d.at.within d.level d.free) [
       | inl of_cube ↦ subst (Contains cube) d.is of_cube
-      | inr all_true ↦ absurd (is.consistent lit (true_before trail.entries d.place lit d.at.within (all_true lit stands)) fails.stands)
+      | inr free ↦ absurd (is.consistent lit (true_before trail.entries d.place lit d.at.within (free.holds lit stands)) fails.stands)
     ]
 
 -- at level 0 every false literal's opposite is known

@@ -13,14 +13,14 @@ use Rattle.trace_core.specs.declared.derivation.Step.{Step}
 use Rattle.clause_arena.specs.Arena.{ArenaClause}
 use Rattle.search_core.specs.declared.search.Search.{Search}
 use Rattle.search_core.specs.Solver.{Solver, inputs_of, held_of, clauses_of, known_clause}
-use Rattle.search_core.specs.Searching.{IsSearching, solver_of}
+use Rattle.search_core.specs.Searching.{HasStepsMore, IsSearching, solver_of}
 use Rattle.search_core.specs.Rounds.{AreNew, AreNamed}
 use Rattle.search_core.specs.Solving.{Learns}
 use Rattle.search_core.proofs.Lists.{All-under}
 use Rattle.search_core.proofs.InOrder.{in_order-ascends, in_order-has}
 use Rattle.search_core.proofs.UpTo.{below_greatest}
 use Rattle.search_core.proofs.Learning.{named_stay}
-use Rattle.search_core.proofs.Settled.{front_twice, same_front}
+use Rattle.search_core.proofs.Steps.{none_steps, steps_front, steps_behind}
 
 -- each clause of these differs from a held one
 differs : (held more : List Known) (one : Known) → Contains held one → AreNew held more → All (λ clause. one.clause ≢ clause) (clauses_of more)
@@ -50,8 +50,8 @@ held_proper s cube bound one kept has proper low =
       proper = proper;
     }
 
-pub few_learnt : (old new : Search) (cube : List ℕ) (more : List Known) → IsSearching new cube → Learns (solver_of old) (solver_of new) more → length more ≤ 3 ^ greatest_of_all (clauses_of (inputs_of old.store.clauses))
-few_learnt old new cube more kept l =
+pub few_learnt : (old new : Search) (cube : List ℕ) (more : List Known) (last : List ℕ) → IsSearching new cube → Learns (solver_of old) (solver_of new) more last → length more ≤ 3 ^ greatest_of_all (clauses_of (inputs_of old.store.clauses))
+few_learnt old new cube more last kept l =
     let bound = greatest_of_all (clauses_of (inputs_of old.store.clauses)) in
     let each = All-map (IsProperClause bound) (λ (one : Known). one.clause) more (All-from_members (λ (one : Known). IsProperClause bound one.clause) more (λ one has.
     let p = All-contains (λ (x : Known). (IsTautology x.clause → ⊥) × (greatest_of x.clause ≤ bound)) more one l.proper has in
@@ -68,7 +68,7 @@ new_append : (held more more' : List Known) → AreNew held more → AreNew (hel
 new_append held [] more' new rest = subst (λ (xs : List Known). AreNew xs more') (append-nil held) rest
 new_append held (one ∷ more) more' new rest = (new.0, new_append (held ++ one ∷ []) more more' new.1 (subst (λ (xs : List Known). AreNew xs more') (sym (append_assoc held (one ∷ []) more)) rest))
 
-pub learns_none : (solver : Solver) → Learns solver solver []
+pub learns_none : (solver : Solver) → Learns solver solver [] []
 learns_none solver = record {
   inputs = refl;
   bound = refl;
@@ -77,21 +77,21 @@ learns_none solver = record {
   names = [];
   learnt = sym (append-nil solver.learnt);
   named = tt;
-  steps = same_front solver.steps;
+  steps = none_steps solver.steps;
   fresh = tt;
   proper = λ i d lt. absurd (omega (arith, lt));
 }
 
-pub learns_then : (old mid new : Solver) (more more' : List Known) → Learns old mid more → Learns mid new more' → Learns old new (more ++ more')
-learns_then old mid new more more' a b = record {
+pub learns_then : (old mid new : Solver) (more more' : List Known) (last : List ℕ) → Learns old mid more [] → Learns mid new more' last → Learns old new (more ++ more') last
+learns_then old mid new more more' last a b = record {
   inputs = b.inputs ∙ a.inputs;
   bound = b.bound ∙ a.bound;
   packets = b.packets ∙ a.packets;
   held = b.held ∙ ap (λ (xs : List Known). xs ++ more') a.held ∙ append_assoc old.held more more';
   names = a.names ++ b.names;
   learnt = b.learnt ∙ ap (λ (xs : List ℕ). xs ++ b.names) a.learnt ∙ append_assoc old.learnt a.names b.names;
-  named = named_append new.steps a.names b.names more more' (named_stay mid.steps new.steps a.names more b.steps a.named) b.named;
-  steps = front_twice old.steps mid.steps new.steps a.steps b.steps;
+  named = named_append new.steps a.names b.names more more' (named_stay mid.steps new.steps a.names more (steps_front mid.steps new.steps (b.names ++ last) b.steps) a.named) b.named;
+  steps = subst (HasStepsMore old.steps new.steps) (sym (append_assoc a.names b.names last)) (steps_behind old.steps mid.steps new.steps a.names (b.names ++ last) a.steps b.steps);
   fresh = new_append old.held more more' a.fresh (subst (λ (xs : List Known). AreNew xs more') a.held b.fresh);
   proper = All-append (λ (one : Known). (IsTautology one.clause → ⊥) × (greatest_of one.clause ≤ greatest_of_all (clauses_of old.inputs))) more more' a.proper
       (subst (λ (inputs : List Known). All (λ (one : Known). (IsTautology one.clause → ⊥) × (greatest_of one.clause ≤ greatest_of_all (clauses_of inputs))) more') a.inputs b.proper);

@@ -77,11 +77,11 @@ search_propagated s cube store trail kept same store_vars grown founded depth_is
     all_at deep place lt zero (inr new) = let here = grown.level place new lt in absurd (omega (arith, here, zero, deep, depth_is))
 
 -- the same solver
-pub same_front : (steps : List Step) → IsFront steps steps
-same_front steps = record { more = []; is = sym (append-nil steps) }
+pub same_front : {X : Type 0} (old : List X) → IsFront old old
+same_front old = record { more = []; is = sym (append-nil old) }
 
-pub front_twice : (old mid new : List Step) → IsFront old mid → IsFront mid new → IsFront old new
-front_twice old mid new a b = record { more = a.more ++ b.more; is = b.is ∙ ap (λ (xs : List Step). xs ++ b.more) a.is ∙ append_assoc old a.more b.more }
+pub front_twice : {X : Type 0} (old mid new : List X) → IsFront old mid → IsFront mid new → IsFront old new
+front_twice {X} old mid new a b = record { more = a.more ++ b.more; is = b.is ∙ ap (λ (xs : List X). xs ++ b.more) a.is ∙ append_assoc old a.more b.more }
 
 pub same_twice : (old mid new : Search) → IsSameSolver old mid → IsSameSolver mid new → IsSameSolver old new
 same_twice old mid new a b = record {

@@ -12,14 +12,14 @@ use Rattle.search_core.specs.declared.rounds.Round.{Round}
 use Rattle.search_core.specs.declared.rounds.Round.TheVariants.{Model, Refuted, Paused}
 use Rattle.search_core.specs.Solver.{Solver, inputs_of, clauses_of, known_clause, is_input}
 use Rattle.search_core.specs.Searching.{IsSearching, solver_of}
-use Rattle.search_core.specs.Rounds.{HasLearnt, IsOutcome, HasRun}
+use Rattle.search_core.specs.Rounds.{HasLearnt, IsOutcome, HasRun, step_of_round}
 use Rattle.search_core.specs.Solving.{Learns, Ends, Solves}
 use Rattle.search_core.proofs.Lists.{All-under, Contains-from_filter}
 use Rattle.search_core.proofs.InOrder.{in_order-has}
 use Rattle.search_core.proofs.UpTo.{greatest_within, greatest_all_within}
 
-learns_from : (s new : Search) (cube : List ℕ) (more : List Known) → IsSearching s cube → HasLearnt s new more → Learns (solver_of s) (solver_of new) more
-learns_from s new cube more kept l = record {
+learns_from : (s new : Search) (cube : List ℕ) (more : List Known) (last : List ℕ) → IsSearching s cube → HasLearnt s new more last → Learns (solver_of s) (solver_of new) more last
+learns_from s new cube more last kept l = record {
   inputs = l.inputs;
   bound = l.numbers.2;
   packets = l.packets;
@@ -42,7 +42,7 @@ pub solves_from : (old s new : Search) (cube : List ℕ) (limit : ℕ) (round : 
 solves_from old s new cube limit round kept same run =
     subst (λ (x : Solver). Solves x (solver_of new) cube limit round) same (record {
       more = run.more;
-      learns = learns_from s new cube run.more kept run.learnt;
+      learns = learns_from s new cube run.more (step_of_round round) kept run.learnt;
       ends = ends_from new cube limit run.more round run.outcome;
     })
 

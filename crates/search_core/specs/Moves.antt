@@ -1,7 +1,9 @@
 -- What a search does next, where no clause is false or unit.
-use Rattle.std.specs.Prelude.{◌⊎◌, ℕ, ◌≤◌, List, Contains}
+use Rattle.std.specs.Prelude.{◌≡◌, ℕ, ◌<◌, ◌≤◌, List, length, take, Contains, None}
 use Rattle.sat_base.specs.Lit.{IsLit, variable}
+use Rattle.trail_core.specs.Trail.{Entry, entry_at, lits_of}
 use Rattle.trail_core.specs.UnderTrail.{IsFalseLit, IsUnassigned}
+use Rattle.search_core.specs.OnTrail.{IsChoice}
 use Rattle.search_core.specs.declared.moves.Move.{Move}
 use Rattle.search_core.specs.declared.moves.Move.TheVariants.{Decide, Blame, Stop}
 
@@ -13,12 +15,16 @@ IsCubeTrue trues cube = (lit : ℕ) → Contains cube lit → Contains trues lit
 abbrev pub AreAssigned : List ℕ → ℕ → Type 0
 AreAssigned trues vars = (lit : ℕ) → IsLit lit → variable lit ≤ vars → IsUnassigned trues lit → ⊥
 
--- a decision may be a literal of the cube, or any of the variables where the cube is true
+-- each decision on the trail was a choice where it was made
+abbrev pub AreChoices : List ℕ → List Entry → Type 0
+AreChoices cube entries = (place : ℕ) → place < length entries → (entry_at entries place).reason ≡ None → IsChoice cube (lits_of (take place entries)) (entry_at entries place).lit
+
+-- a decision is a literal of the cube, or of the least free variable where the cube is true
 pub record IsDecidable (trues cube : List ℕ) (vars lit : ℕ) : Type 0 where
   pub is : IsLit lit
   pub within : variable lit ≤ vars
   pub free : IsUnassigned trues lit
-  pub allowed : Contains cube lit ⊎ IsCubeTrue trues cube
+  pub allowed : IsChoice cube trues lit
 
 pub record IsToBlame (trues cube : List ℕ) (lit : ℕ) : Type 0 where
   pub stands : Contains cube lit

@@ -1,5 +1,5 @@
 -- What a round of the search does.
-use Rattle.std.specs.Prelude.{◌≡◌, ℕ, ◌<◌, ◌≤◌, max, List, [], ◌∷◌, ◌++◌, length, All, Contains}
+use Rattle.std.specs.Prelude.{◌≡◌, ℕ, ◌<◌, ◌≤◌, max, List, [], ◌∷◌, ◌++◌, length, All, Contains, Option, None, Some}
 use Rattle.trace_core.specs.declared.derivation.Step.{Step}
 use Rattle.sat_base.specs.Lit.{IsLitSet, IsTautology, greatest_of}
 use Rattle.sat_base.specs.Truth.{IsModelOf}
@@ -10,7 +10,7 @@ use Rattle.search_core.specs.declared.rounds.Round.TheVariants.{Model, Refuted, 
 use Rattle.search_core.specs.declared.rounds.Descent.{Descent}
 use Rattle.search_core.specs.declared.rounds.Descent.TheVariants.{Conflict, Ended}
 use Rattle.search_core.specs.Solver.{inputs_of, held_of, clauses_of, IsStep}
-use Rattle.search_core.specs.Searching.{IsFront, IsSameSolver, IsConflict, packets_of}
+use Rattle.search_core.specs.Searching.{HasStepsMore, IsSameSolver, IsConflict, packets_of}
 use Rattle.search_core.specs.Learning.{HasLearntOne}
 use Rattle.search_core.specs.Refutations.{IsRefutation}
 
@@ -37,24 +37,40 @@ AreNamed steps [] (one ∷ more) = ⊥
 AreNamed steps (number ∷ numbers) [] = ⊥
 AreNamed steps (number ∷ numbers) (one ∷ more) = IsStep steps number one × AreNamed steps numbers more
 
--- Clauses were learnt: each is held, is named by a learnt step, is new, is no tautology, and is over the variables of the inputs.
-pub record HasLearnt (old new : Search) (more : List Known) : Type 0 where
+-- the number of the step that an answer names
+abbrev pub step_of_round : Round → List ℕ
+step_of_round (Model values) = []
+step_of_round (Refuted part number) = number ∷ []
+step_of_round Paused = []
+
+abbrev pub step_of_descent : Descent → List ℕ
+step_of_descent (Conflict id) = []
+step_of_descent (Ended round) = step_of_round round
+
+abbrev pub step_of_end : Option Descent → List ℕ
+step_of_end None = []
+step_of_end (Some descent) = step_of_descent descent
+
+-- Clauses were learnt: each is held, is named by a learnt step, is new, is no tautology, and is over the variables of the inputs. All
+-- other steps that came have one literal, or are among the last ones.
+pub record HasLearnt (old new : Search) (more : List Known) (last : List ℕ) : Type 0 where
   pub inputs : inputs_of new.store.clauses ≡ inputs_of old.store.clauses
   pub held : held_of new.store.clauses ≡ held_of old.store.clauses ++ more
   pub names : List ℕ
   pub learnt : new.learnt.items ≡ old.learnt.items ++ names
   pub named : AreNamed new.steps.items names more
-  pub steps : IsFront old.steps.items new.steps.items
+  pub steps : HasStepsMore old.steps.items new.steps.items (names ++ last)
   pub fresh : AreNew (held_of old.store.clauses) more
   pub proper : All (λ one. (IsTautology one.clause → ⊥) × (greatest_of one.clause ≤ old.greatest)) more
   pub numbers : (new.greatest ≡ old.greatest) × (new.inputs ≡ old.inputs) × (new.bound ≡ old.bound)
   pub packets : packets_of new ≡ packets_of old
   pub vars : new.trail.vars ≡ old.trail.vars
 
--- one clause was learnt, after steps had come
+-- one clause was learnt, after steps of one literal had come
 pub record HasLearntNext (old new : Search) : Type 0 where
   pub mid : Search
   pub same : IsSameSolver old mid
+  pub steps : HasStepsMore old.steps.items mid.steps.items []
   pub one : HasLearntOne mid new
 
 -- a right answer
@@ -76,5 +92,5 @@ IsOutcome search cube limit more Paused = length more ≡ limit
 
 pub record HasRun (old new : Search) (cube : List ℕ) (limit : ℕ) (round : Round) : Type 0 where
   pub more : List Known
-  pub learnt : HasLearnt old new more
+  pub learnt : HasLearnt old new more (step_of_round round)
   pub outcome : IsOutcome new cube limit more round

@@ -1,5 +1,5 @@
 -- What a search keeps between its steps.
-use Rattle.std.specs.Prelude.{◌≡◌, ℕ, ◌<◌, ◌≤◌, List, [], ◌∷◌, ◌++◌, length, All, Contains, Option, option_map, map}
+use Rattle.std.specs.Prelude.{◌≡◌, ◌⊎◌, ℕ, ◌<◌, ◌≤◌, List, [], ◌∷◌, ◌++◌, length, All, Contains, Option, option_map, map}
 use Rattle.std.specs.Arc.{arc_value}
 use Rattle.sat_base.specs.Lit.{greatest_of_all}
 use Rattle.sat_base.specs.declared.origins.Ref.{Ref}
@@ -66,9 +66,21 @@ pub record HasUnitsMore (old new : List Step) : Type 0 where
   pub is : new ≡ old ++ more
   pub units : All (λ step. length step.clause ≡ 1) more
 
--- these steps come first
-pub record IsFront (old new : List Step) : Type 0 where
+-- these ascend, above the first bound and up to the second
+abbrev pub AscendBetween : ℕ → List ℕ → ℕ → Type 0
+AscendBetween low [] high = low ≤ high
+AscendBetween low (number ∷ numbers) high = (low < number) × AscendBetween number numbers high
+
+-- Steps came behind these: those of these numbers, counted from 1, and others of one literal.
+pub record HasStepsMore (old new : List Step) (numbers : List ℕ) : Type 0 where
   pub more : List Step
+  pub is : new ≡ old ++ more
+  pub ascend : AscendBetween (length old) numbers (length new)
+  pub each : (number : ℕ) (one : Known) → length old < number → IsStep new number one → Contains numbers number ⊎ (length one.clause ≡ 1)
+
+-- these come first
+pub record IsFront {X : Type 0} (old new : List X) : Type 0 where
+  pub more : List X
   pub is : new ≡ old ++ more
 
 -- The same inputs, held clauses and learnt steps, after which own steps may have come.

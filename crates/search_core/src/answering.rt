@@ -2,6 +2,7 @@
 
 ghost use Rattle.std.specs.Prelude.{◌≡◌, ◌<◌, IfOk};
 ghost use Rattle.search_core.specs.Searching.{IsSearching, solver_of};
+ghost use Rattle.search_core.specs.Solving.{Keeps};
 ghost use Rattle.search_core.specs.Answering.{Answers};
 
 use crate::rounds::Round;
@@ -21,7 +22,7 @@ pub enum Answer {
 }
 
 /// Rounds of `limit` learnt clauses until the cube has its answer. The search is at level 0 before and after.
-/// What was learnt is kept. It comes to an end: over V variables there are at most 3^V clauses that aren't tautologies, and no clause
+/// What was learnt is kept, also after want of memory. It comes to an end: over V variables there are at most 3^V clauses that aren't tautologies, and no clause
 /// is learnt twice.
 pub fn solve_until_answered(
     search: &mut Search,
@@ -33,6 +34,7 @@ pub fn solve_until_answered(
     requires some { 0 < limit }
     ensures kept { IsSearching search.new cube.now }
     ensures zero { search.new.trail.depth ≡ 0 }
+    ensures keeps { Keeps (solver_of search.old) (solver_of search.new) }
     ensures answer { IfOk result (Answers (solver_of search.old) (solver_of search.new) cube.now) }
 {
     loop {

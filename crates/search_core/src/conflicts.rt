@@ -8,9 +8,10 @@ ghost use Rattle.trail_core.specs.Trail.{IsTrail, lits_of, up_to};
 ghost use Rattle.trail_core.specs.UnderTrail.{IsFalseClause, IsOpenClause, IsUnassigned};
 ghost use Rattle.propagate.specs.Store.{AreWithin};
 ghost use Rattle.search_core.specs.Solver.{IsStep};
-ghost use Rattle.search_core.specs.Searching.{IsSearching};
+ghost use Rattle.search_core.specs.Searching.{IsSearching, solver_of};
 ghost use Rattle.search_core.specs.Learning.{HasLearntOne};
 ghost use Rattle.search_core.specs.Lessons.{IsLesson};
+ghost use Rattle.search_core.specs.Solving.{Keeps};
 
 use crate::search::{Search, push_step};
 use analyze::learn;
@@ -40,6 +41,7 @@ pub(crate) fn learn_from(
     requires known { conflict < length search.old.store.clauses }
     requires refuted { IsFalseClause (lits_of search.old.trail.entries) (clause_at search.old.store.clauses conflict).lits }
     ensures kept { IsSearching search.new cube.now }
+    ensures keeps { Keeps (solver_of search.old) (solver_of search.new) }
     ensures ok { OnOk result (HasLearntOne search.old search.new) }
 {
     let Lesson { clause, back, step } = analyze_conflict(search, cube, conflict)?;
@@ -95,6 +97,7 @@ fn hold(
     requires open_below { (level : ℕ) → level < search.old.trail.depth → IsOpenClause (lits_of (up_to level search.old.trail.entries)) clause.now }
     ensures kept { IsSearching search.new cube.now }
     ensures parts { search.new ≡ record search.old { store = search.new.store; learnt = search.new.learnt } }
+    ensures keeps { Keeps (solver_of search.old) (solver_of search.new) }
     ensures number { IfOk result (λ id. id ≡ length search.old.store.clauses) }
     ensures held { OnOk result (search.new.store.clauses ≡ search.old.store.clauses ++ record { lits = clause.now; tag = tag; origin = Own number } ∷ []) }
     ensures listed { OnOk result (search.new.learnt.items ≡ search.old.learnt.items ++ number ∷ []) }

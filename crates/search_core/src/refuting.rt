@@ -6,7 +6,7 @@ ghost use Rattle.trail_core.specs.Trail.{IsTrail, lits_of};
 ghost use Rattle.trail_core.specs.UnderTrail.{IsFalseClause};
 ghost use Rattle.analyze.specs.Table.{KnowsUnits};
 ghost use Rattle.search_core.specs.Solver.{inputs_of};
-ghost use Rattle.search_core.specs.Searching.{IsSearching, IsFront, table_of};
+ghost use Rattle.search_core.specs.Searching.{IsSearching, HasStepsMore, IsFront, table_of};
 ghost use Rattle.search_core.specs.Moves.{IsToBlame};
 ghost use Rattle.search_core.specs.Refutations.{IsRefutation};
 
@@ -31,6 +31,7 @@ pub(crate) fn refute_literal(
     ensures kept { IsSearching search.new cube.now }
     ensures parts { search.new ≡ record search.old { steps = search.new.steps } }
     ensures steps { IsFront search.old.steps.items search.new.steps.items }
+    ensures last { IfOk result (λ answer. HasStepsMore search.old.steps.items search.new.steps.items (answer.1 ∷ [])) }
     ensures answer { IfOk result (λ answer. IsRefutation (inputs_of search.old.store.clauses) search.new.steps.items cube.now answer.0 answer.1) }
 {
     let (part, step) = refute(
@@ -60,6 +61,7 @@ pub(crate) fn refute_all(
     ensures kept { IsSearching search.new cube.now }
     ensures parts { search.new ≡ record search.old { units = search.new.units; tags = search.new.tags; named = search.new.named; steps = search.new.steps } }
     ensures steps { IsFront search.old.steps.items search.new.steps.items }
+    ensures last { IfOk result (λ answer. HasStepsMore search.old.steps.items search.new.steps.items (answer.1 ∷ [])) }
     ensures answer { IfOk result (λ answer. IsRefutation (inputs_of search.old.store.clauses) search.new.steps.items cube.now answer.0 answer.1) }
 {
     name_units(search, cube)?;

@@ -4,10 +4,11 @@ ghost use Rattle.std.specs.Prelude.{◌≡◌, ◌+◌, ◌<◌, ◌≤◌, leng
 ghost use Rattle.trail_core.specs.Trail.{IsTrail, lits_of};
 ghost use Rattle.trail_core.specs.UnderTrail.{IsComplete};
 ghost use Rattle.clause_arena.specs.Arena.{lits_of_each};
-ghost use Rattle.search_core.specs.Searching.{IsSearching, AreAllNamed, IsSameSolver, IsConflict};
+ghost use Rattle.search_core.specs.Searching.{IsSearching, AreAllNamed, HasStepsMore, IsSameSolver, IsConflict, solver_of};
 ghost use Rattle.search_core.specs.Learning.{HasLearntOne};
 ghost use Rattle.search_core.specs.Moves.{IsDecidable};
-ghost use Rattle.search_core.specs.Rounds.{AreVariables, IsAnswer, IsDescent, HasLearntNext, HasRun};
+ghost use Rattle.search_core.specs.Rounds.{AreVariables, IsAnswer, IsDescent, HasLearntNext, HasRun, step_of_round, step_of_descent, step_of_end};
+ghost use Rattle.search_core.specs.Solving.{Keeps};
 
 use crate::conflicts::learn_from;
 use crate::models::assignment;
@@ -50,6 +51,7 @@ pub(crate) fn run_round(
     requires trail { IsTrail search.old.trail }
     requires fits { AreVariables search.old cube.now vars }
     ensures kept { IsSearching search.new cube.now }
+    ensures keeps { Keeps (solver_of search.old) (solver_of search.new) }
     ensures round { IfOk result (HasRun search.old search.new cube.now limit) }
 {
     let mut count = 0;
@@ -68,8 +70,10 @@ fn step(search: &mut Search, cube: &Cube, vars: u32) -> Result<Option<Round>, Al
     requires trail { IsTrail search.old.trail }
     requires fits { AreVariables search.old cube.now vars }
     ensures kept { IsSearching search.new cube.now }
+    ensures keeps { Keeps (solver_of search.old) (solver_of search.new) }
     ensures trail { OnOk result (IsTrail search.new.trail) }
     ensures ends { IfOk result (λ end. IfSome end (λ round. IsSameSolver search.old search.new × IsAnswer search.new cube.now round)) }
+    ensures steps { IfOk result (λ end. IfSome end (λ round. HasStepsMore search.old.steps.items search.new.steps.items (step_of_round round))) }
     ensures learns { IfOk result (λ end. IfNone end (HasLearntNext search.old search.new)) }
 {
     match descend(search, cube, vars)? {
@@ -87,8 +91,10 @@ fn meet_conflict(search: &mut Search, cube: &Cube, id: usize) -> Result<Option<R
     requires trail { IsTrail search.old.trail }
     requires conflict { IsConflict search.old id }
     ensures kept { IsSearching search.new cube.now }
+    ensures keeps { Keeps (solver_of search.old) (solver_of search.new) }
     ensures trail { OnOk result (IsTrail search.new.trail) }
     ensures ends { IfOk result (λ end. IfSome end (λ round. IsSameSolver search.old search.new × IsAnswer search.new cube.now round)) }
+    ensures steps { IfOk result (λ end. IfSome end (λ round. HasStepsMore search.old.steps.items search.new.steps.items (step_of_round round))) }
     ensures learns { IfOk result (λ end. IfNone end (HasLearntOne search.old search.new)) }
 {
     if search.trail.depth() != 0 {
@@ -108,6 +114,7 @@ fn descend(search: &mut Search, cube: &Cube, vars: u32) -> Result<Descent, Alloc
     ensures kept { IsSearching search.new cube.now }
     ensures same { IsSameSolver search.old search.new }
     ensures trail { IsTrail search.new.trail }
+    ensures steps { IfOk result (λ descent. HasStepsMore search.old.steps.items search.new.steps.items (step_of_descent descent)) }
     ensures descent { IfOk result (IsDescent search.new cube.now) }
 {
     loop {
@@ -126,6 +133,7 @@ fn advance(search: &mut Search, cube: &Cube, vars: u32) -> Result<Option<Descent
     ensures kept { IsSearching search.new cube.now }
     ensures same { IsSameSolver search.old search.new }
     ensures trail { IsTrail search.new.trail }
+    ensures steps { IfOk result (λ end. HasStepsMore search.old.steps.items search.new.steps.items (step_of_end end)) }
     ensures ends { IfOk result (λ end. IfSome end (IsDescent search.new cube.now)) }
     ensures goes_on { IfOk result (λ end. IfNone end (length search.old.trail.entries < length search.new.trail.entries)) }
 {
@@ -145,6 +153,7 @@ fn follow(search: &mut Search, cube: &Cube, vars: u32) -> Result<Option<Descent>
     ensures kept { IsSearching search.new cube.now }
     ensures same { IsSameSolver search.old search.new }
     ensures trail { IsTrail search.new.trail }
+    ensures steps { IfOk result (λ end. HasStepsMore search.old.steps.items search.new.steps.items (step_of_end end)) }
     ensures ends { IfOk result (λ end. IfSome end (IsDescent search.new cube.now)) }
     ensures goes_on { IfOk result (λ end. IfNone end (length search.old.trail.entries < length search.new.trail.entries)) }
 {

@@ -19,6 +19,7 @@ pub(crate) fn settle(search: &mut Search, cube: &Cube) -> Result<Option<usize>, 
     requires trail { IsTrail search.old.trail }
     ensures kept { IsSearching search.new cube.now }
     ensures same { IsSameSolver search.old search.new }
+    ensures steps { HasUnitsMore search.old.steps.items search.new.steps.items }
     ensures trail { IsTrail search.new.trail }
     ensures grown { length search.old.trail.entries ≤ length search.new.trail.entries }
     ensures conflict { IfOk result (λ found. IfSome found (IsConflict search.new)) }

@@ -29,5 +29,5 @@ pub loop-model-preserved : goal.loop-model-preserved
 loop-model-preserved c = (
   c.in_ok-model.ensures.kept,
   c.in_ok-model.ensures.zero,
-  paused_learns (solver_of c.args.search.now) (solver_of c.loop-model.search) (solver_of c.solve.new.search) c.args.cube.now c.args.limit c.in_ok-model.field-0 c.loop-model.invariant.2 c.in_ok-model.ensures.round,
+  paused_learns (solver_of c.args.search.now) (solver_of c.loop-model.search) (solver_of c.solve.new.search) c.args.cube.now c.args.limit c.in_ok-model.field-0 c.loop-model.invariant.2 c.in_ok-model.ensures.round c.in-Paused.is,
 )

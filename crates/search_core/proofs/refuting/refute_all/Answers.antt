@@ -1,4 +1,4 @@
-use Rattle.std.proofs.Common.{◌≡◌, ◌∙◌, ◌<◌, [], ℕ, List, Option, None, length, ap, sym, subst, arith}
+use Rattle.std.proofs.Common.{◌≡◌, ◌∙◌, ◌<◌, [], ◌∷◌, ℕ, List, Option, None, length, ap, sym, subst, arith}
 use Rattle.std.specs.Prelude.{All, Contains}
 use Rattle.sat_base.specs.Lit.{opposite}
 use Rattle.sat_base.specs.declared.origins.Ref.{Ref}
@@ -18,6 +18,7 @@ use Rattle.search_core.specs.Refutations.{IsRefutation}
 use Rattle.search_core.proofs.Learnings.{false_proper}
 use Rattle.search_core.proofs.Searches.{name_of_clause}
 use Rattle.search_core.proofs.Refuted.{zero_opposites, refutation_from, nothing_negated}
+use Rattle.search_core.proofs.Steps.{units_steps, pushed_steps, steps_then}
 use Rattle.search_core.proofs.refuting.refute_all.Goals as goal
 
 abbrev Derives : ℕ → Step → List ArenaClause → List Ref → List ℕ → Type 0
@@ -47,6 +48,14 @@ push_step-requires-clause-ok c =
     (e.all ∙ ap (λ (t : TrailView). length t.entries) (sym trail_is))
     (subst (λ (x : StoreView). IsFalseClause (lits_of s.trail.entries) (clause_at x.clauses c.args.conflict).lits) (sym store_is)
     (subst (λ (t : TrailView). IsFalseClause (lits_of t.entries) (clause_at old.store.clauses c.args.conflict).lits) (sym trail_is) c.requires.refuted)))
+
+pub returns-clause-last : goal.returns-clause-last
+returns-clause-last c =
+    let old = c.args.search.now.steps.items in
+    let mid = c.name_units.new.search.steps.items in
+    let new = c.push_step.new.search.steps.items in
+    let number = c.in_ok-number.number in
+    steps_then old mid new [] (number ∷ []) (units_steps old mid c.in_ok-name_units.ensures.steps) (pushed_steps mid new c.in_ok-step.step number c.in_ok-number.ensures.pushed c.in_ok-number.ensures.number)
 
 pub returns-clause-answer : goal.returns-clause-answer
 returns-clause-answer c =

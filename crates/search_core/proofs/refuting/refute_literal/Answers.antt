@@ -13,6 +13,7 @@ use Rattle.search_core.specs.Searching.{table_of}
 use Rattle.search_core.specs.Refutations.{IsRefutation}
 use Rattle.search_core.proofs.Learnings.{knows_arena}
 use Rattle.search_core.proofs.Refuted.{part_within, refutation_from}
+use Rattle.search_core.proofs.Steps.{pushed_steps}
 use Rattle.search_core.proofs.refuting.refute_literal.Goals as goal
 
 abbrev Derives : List Entry → Step → List ArenaClause → List Ref → List ℕ → Type 0
@@ -26,6 +27,9 @@ push_step-requires-clause-ok c =
     (subst (λ units. Derives s.trail.entries step c.arena.result.now units s.tags.items) c.deref.ensures.value
     (subst (λ tags. Derives s.trail.entries step c.arena.result.now c.deref.result.now tags) c.deref-2.ensures.value c.in_ok-part.ensures.derived)) in
     (derived (table_of s) (knows_arena s c.args.cube.now c.requires.kept) c.requires.units).ok
+
+pub returns-clause-last : goal.returns-clause-last
+returns-clause-last c = pushed_steps c.args.search.now.steps.items c.push_step.new.search.steps.items c.in_ok-part.step c.in_ok-number.number c.in_ok-number.ensures.pushed c.in_ok-number.ensures.number
 
 pub returns-clause-answer : goal.returns-clause-answer
 returns-clause-answer c =

@@ -1,8 +1,9 @@
-use Rattle.std.proofs.Common.{◌∷◌, [], ◌++◌, arith}
+use Rattle.std.proofs.Common.{◌∷◌, [], ◌++◌, refl, arith}
 use Rattle.std.proofs.lemmas.List.{length_push}
 use Rattle.trace_core.specs.Trace.{known_of}
-use Rattle.search_core.specs.Rounds.{HasLearntNext}
-use Rattle.search_core.proofs.Learning.{learnt_same, learnt_more, outcome_of, ended_of, next_of}
+use Rattle.search_core.specs.Rounds.{HasLearntNext, step_of_round}
+use Rattle.search_core.specs.Searching.{HasStepsMore}
+use Rattle.search_core.proofs.Learning.{learnt_none, learnt_same, learnt_more, outcome_of, ended_of, some_of, next_of}
 use Rattle.search_core.proofs.rounds.run_round.Goals as goal
 
 pub returns-in-Some-clause-round : goal.returns-in-Some-clause-round
@@ -10,11 +11,15 @@ returns-in-Some-clause-round c =
     let (more, learnt, size, le) = c.loop-count.invariant.2 in
     let new = c.step.new.search in
     let (same, right) = ended_of c.loop-count.search new c.args.cube.now c.in_ok-round.field-0 c.in-Some.round c.in-Some.is c.in_ok-round.ensures.ends in
+    let steps = some_of c.in_ok-round.field-0 c.in-Some.round (λ round. HasStepsMore c.loop-count.search.steps.items new.steps.items (step_of_round round)) c.in-Some.is c.in_ok-round.ensures.steps in
     record {
       more = more;
-      learnt = learnt_same c.args.search.now c.loop-count.search new more learnt same;
+      learnt = learnt_same c.args.search.now c.loop-count.search new more (step_of_round c.in-Some.round) learnt same steps;
       outcome = outcome_of new c.args.cube.now c.args.limit more c.in-Some.round right (omega (arith, size, c.loop-count-test.true));
     }
+
+pub loop-count-init : goal.loop-count-init
+loop-count-init c = (c.requires.kept, c.requires.trail, ([], learnt_none c.args.search.now, refl, omega arith))
 
 pub loop-count-preserved : goal.loop-count-preserved
 loop-count-preserved c =
@@ -24,5 +29,5 @@ loop-count-preserved c =
     let one = known_of next.one.step in (
       c.step.ensures.kept,
       c.in_ok-round.ensures.trail,
-      (more ++ one ∷ [], learnt_more c.args.search.now next.mid new more (learnt_same c.args.search.now c.loop-count.search next.mid more learnt next.same) next.one, omega (arith, size, length_push more one), omega (arith, c.loop-count-test.true)),
+      (more ++ one ∷ [], learnt_more c.args.search.now next.mid new more (learnt_same c.args.search.now c.loop-count.search next.mid more [] learnt next.same next.steps) next.one, omega (arith, size, length_push more one), omega (arith, c.loop-count-test.true)),
     )
