@@ -1,16 +1,21 @@
 //! Sessions.
 
-ghost use Rattle.std.specs.Prelude.{◌≡◌, ◌+◌, ◌<◌, ◌≤◌, [], length, IfOk, OnOk, OnErr};
-ghost use Rattle.search_core.specs.Solver.{IsSound};
-ghost use Rattle.search_core.specs.Solving.{Solves};
+ghost use Rattle.std.specs.Prelude.{◌≡◌, ◌+◌, ◌<◌, ◌≤◌, [], None, length, is_some, IfOk, OnOk, OnErr};
+ghost use Rattle.std.specs.Arc.{arc_value};
+ghost use Rattle.trace_core.specs.Known.{Known};
+ghost use Rattle.search_core.specs.Solver.{IsSound, packet_at};
+ghost use Rattle.search_core.specs.Loading.{loaded};
+ghost use Rattle.search_core.specs.Sharing.{IsTakable, HasTaken};
+ghost use Rattle.search_core.specs.Solving.{Keeps, Solves};
 ghost use Rattle.search_core.specs.Answering.{Answers};
-ghost use Rattle.session.specs.Session.{loaded, no_inputs};
+ghost use Rattle.session.specs.Session.{no_inputs};
 
 use sat_base::{Clause, Cube, Ref};
-use search_core::{Answer, Round, Search, solve, solve_until_answered};
+use search_core::{Answer, Round, Search, load, solve, solve_until_answered, take_in};
 use std::alloc::{AllocError, Global};
 use std::marker::Model;
-use trace_core::Step;
+use std::sync::Arc;
+use trace_core::{Packet, Step};
 
 /// One incremental solver. Contracts see it as its solver and the names of its published steps.
 #[derive(Debug, Drop)]
@@ -43,16 +48,35 @@ impl Session {
         }
     }
 
-    /// Adds the clauses of the next job behind the others, and makes it the job that is loaded.
+    /// Adds the clauses of the next job behind the inputs, and makes it the job that is loaded. The variables of
+    /// its cube are reserved besides. After want of memory the session is as before.
     pub fn load(&mut self, clauses: &[Clause], cube: &Cube) -> Result<(), AllocError>
         requires clauses { length self.old.solver.inputs + length clauses.now ≤ 16777216 }
         requires jobs { self.old.solver.bound < 1048576 }
         ensures ok { OnOk result (self.new ≡ record self.old { solver = loaded self.old.solver clauses.now }) }
         ensures err { OnErr result (self.new ≡ self.old) }
     {
-        let _ = clauses.len();
-        let _ = cube.lits();
-        Err(AllocError)
+        let _ = self.search.trail.depth();
+        let loaded = load(&mut self.search, cube, clauses);
+        let _ = self.search.trail.depth();
+        loaded
+    }
+
+    /// Takes in the last clause of the packet of this place of the shared database, and knows the place from now
+    /// on. After want of memory the session is as before.
+    pub fn import(&mut self, place: u32, packet: &Arc<Packet>) -> Result<(), AllocError>
+        requires place { 1 ≤ place }
+        requires unknown { packet_at self.old.solver.packets place ≡ None }
+        requires takable { (one : Known) × IsTakable self.old.solver (arc_value packet.now) one }
+        ensures ok { OnOk result ((one : Known) × HasTaken self.old.solver self.new.solver place (arc_value packet.now) one) }
+        ensures names { self.new.names ≡ self.old.names }
+        ensures err { OnErr result (self.new ≡ self.old) }
+    {
+        // At level 0 the search serves every cube, so also one without literals.
+        let cube = Cube::of_ascending(Vec::new(self.search.alloc));
+        let taken = take_in(&mut self.search, &cube, place, packet);
+        let _ = self.search.trail.depth();
+        taken
     }
 
     /// One round of at most `limit` learnt clauses, which are kept: a model of exactly the variables 1 to the greatest
@@ -60,6 +84,7 @@ impl Session {
     pub fn solve(&mut self, cube: &Cube, limit: u64) -> Result<Round, AllocError>
         requires some { 0 < limit }
         ensures round { IfOk result (Solves self.old.solver self.new.solver cube.now limit) }
+        ensures keeps { Keeps self.old.solver self.new.solver }
         ensures names { self.new.names ≡ self.old.names }
     {
         let round = solve(&mut self.search, cube, limit);
@@ -72,11 +97,19 @@ impl Session {
     pub fn solve_until_answered(&mut self, cube: &Cube, limit: u64) -> Result<Answer, AllocError>
         requires some { 0 < limit }
         ensures answer { IfOk result (Answers self.old.solver self.new.solver cube.now) }
+        ensures keeps { Keeps self.old.solver self.new.solver }
         ensures names { self.new.names ≡ self.old.names }
     {
         let answer = solve_until_answered(&mut self.search, cube, limit);
         let _ = self.search.trail.depth();
         answer
+    }
+
+    /// Whether the place of the shared database is known: imported or published. Takes no memory.
+    pub fn knows(&self, place: u32) -> bool
+        ensures { result ≡ is_some (packet_at self.now.solver.packets place) }
+    {
+        place > 0 && self.search.packets.get(place as usize - 1).is_some_and(|packet| packet.is_some())
     }
 
     /// The own steps, in order. What every session keeps is told with them.
