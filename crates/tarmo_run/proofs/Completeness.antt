@@ -10,6 +10,7 @@ use Rattle.icnf_text.proofs.Fronts.{none_behind_wrong, none_at_end_behind_wrong,
 use Rattle.tarmo_run.specs.declared.endings.Ending.{Ending}
 use Rattle.tarmo_run.specs.declared.endings.Ending.TheVariants.{Complete, Refused, Unread, Exhausted}
 use Rattle.tarmo_run.specs.Output.{AreShown, IsAnswered, ending_by, jobs_in, last_line_of, status_of, unnumbered}
+use Rattle.tarmo_run.specs.declared.words.Command.{Command}
 use Rattle.tarmo_run.specs.Written.{Finished}
 
 -- what a source that is ended gave is all that it had
@@ -34,10 +35,10 @@ found_in false text bytes (Some rest) fault gave whole is =
     )
 
 -- What a whole output is, where the source didn't fail.
-by_ending : (ending : Ending) (status : ℕ) (text bytes : List ℕ) (left_after : Option (List ℕ)) (ended failed : Bool) (before after : Option (List ℕ)) → status ≡ status_of ending → Some text ≡ followed_by bytes left_after → (ended ≡ true → IsEmptyWhereTold left_after) → failed ≡ false →
-    (blocks written : List ℕ) → AreShown ending (record { bytes = bytes; ended = ended; failed = failed }) blocks → written ≡ blocks ++ last_line_of ending → after ≡ appended before written →
-    IsAnswered text before after status ⊎ (status ≡ 6)
-by_ending (Complete jobs) status text bytes left_after ended failed before after is gave whole unfailed blocks written shown line taken =
+by_ending : (trace : Bool) (ending : Ending) (status : ℕ) (text bytes : List ℕ) (left_after : Option (List ℕ)) (ended failed : Bool) (before after : Option (List ℕ)) → status ≡ status_of ending → Some text ≡ followed_by bytes left_after → (ended ≡ true → IsEmptyWhereTold left_after) → failed ≡ false →
+    (blocks written : List ℕ) → AreShown trace ending (record { bytes = bytes; ended = ended; failed = failed }) blocks → written ≡ blocks ++ last_line_of ending → after ≡ appended before written →
+    IsAnswered trace text before after status ⊎ (status ≡ 6)
+by_ending trace (Complete jobs) status text bytes left_after ended failed before after is gave whole unfailed blocks written shown line taken =
     let all : bytes ≡ text = all_given text bytes left_after gave (whole shown.1) in
     let same : jobs_in bytes ended ≡ jobs_in text true = ap (jobs_in bytes) shown.1 ∙ ap (λ (xs : List ℕ). jobs_in xs true) all in
     let none : wrong text true ≡ None = ap (λ (xs : List ℕ). wrong xs true) (sym all) ∙ ap (wrong bytes) (sym shown.1) ∙ shown.2 in
@@ -48,7 +49,7 @@ by_ending (Complete jobs) status text bytes left_after ended failed before after
       taken = taken ∙ ap (appended before) (line ∙ ap (λ (ending : Ending). blocks ++ last_line_of ending) ends);
       told = is ∙ ap status_of ends;
     })
-by_ending (Refused fault) status text bytes left_after ended failed before after is gave whole unfailed blocks written shown line taken =
+by_ending trace (Refused fault) status text bytes left_after ended failed before after is gave whole unfailed blocks written shown line taken =
     let found = found_in ended text bytes left_after fault gave whole shown.1 in
     let same : jobs_in bytes ended ≡ jobs_in text true = ap (λ (list : List Numbered). jobs_of (unnumbered list)) found.1 in
     let ends : Refused fault ≡ ending_by (wrong text true) (length (jobs_in text true)) = ap (λ (found : Option Fault). ending_by found (length (jobs_in text true))) (sym found.0) in
@@ -58,12 +59,16 @@ by_ending (Refused fault) status text bytes left_after ended failed before after
       taken = taken ∙ ap (appended before) (line ∙ ap (λ (ending : Ending). blocks ++ last_line_of ending) ends);
       told = is ∙ ap status_of ends;
     })
-by_ending Unread status text bytes left_after ended failed before after is gave whole unfailed blocks written shown line taken =
+by_ending trace Unread status text bytes left_after ended failed before after is gave whole unfailed blocks written shown line taken =
     let failing : failed ≡ true = shown.0 in cc
-by_ending Exhausted status text bytes left_after ended failed before after is gave whole unfailed blocks written shown line taken = inr is
+by_ending trace Exhausted status text bytes left_after ended failed before after is gave whole unfailed blocks written shown line taken = inr is
 
-pub complete : (ending : Ending) (status : ℕ) (text : List ℕ) (left_before left_after : Option (List ℕ)) (ended failed : Bool) (before after : Option (List ℕ)) → status ≡ status_of ending → Finished ending left_before left_after ended failed before after → left_before ≡ Some text → (ended ≡ true → IsEmptyWhereTold left_after) → failed ≡ false →
-    IsAnswered text before after status ⊎ (status ≡ 6)
-complete ending status text left_before left_after ended failed before after is finished told whole unfailed =
-    by_ending ending status text finished.bytes left_after ended failed before after is (sym told ∙ finished.gave) whole unfailed
+pub complete : (trace : Bool) (ending : Ending) (status : ℕ) (text : List ℕ) (left_before left_after : Option (List ℕ)) (ended failed : Bool) (before after : Option (List ℕ)) → status ≡ status_of ending → Finished trace ending left_before left_after ended failed before after → left_before ≡ Some text → (ended ≡ true → IsEmptyWhereTold left_after) → failed ≡ false →
+    IsAnswered trace text before after status ⊎ (status ≡ 6)
+complete trace ending status text left_before left_after ended failed before after is finished told whole unfailed =
+    by_ending trace ending status text finished.bytes left_after ended failed before after is (sym told ∙ finished.gave) whole unfailed
     finished.output.blocks finished.text finished.output.shown finished.output.written finished.taken
+
+-- what was read of the words is what they ask for
+pub same_command : (found wanted : Option Command) (given command : Command) → found ≡ wanted → found ≡ Some given → wanted ≡ Some command → given ≡ command
+same_command found wanted given command is some asked = cc

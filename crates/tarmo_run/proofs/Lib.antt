@@ -1,7 +1,10 @@
 pub mod Closing
 pub mod Completeness
+pub mod Earlier
+pub mod Loaded
 pub mod Progress
 pub mod Reached
 pub mod Results
-pub mod Statements
 pub mod Right
+pub mod Statements
+pub mod Traced

@@ -1,5 +1,5 @@
 -- A text that is read piece by piece.
-use Rattle.std.proofs.Common.{◌≡◌, ◌∙◌, ℕ, ◌+◌, ◌-◌, ◌<◌, ◌≤◌, List, [], ◌∷◌, ◌++◌, length, take, Option, Bool, true, false, nat_eq, nat_lt, refl, ap, sym, subst, arith}
+use Rattle.std.proofs.Common.{◌≡◌, ◌∙◌, ℕ, ◌-◌, ◌<◌, ◌≤◌, List, [], ◌++◌, length, take, Option, Bool, true, false, nat_eq, nat_lt, refl, ap, sym, subst, arith}
 use Rattle.std.proofs.Common.{inl, inr}
 use Rattle.std.specs.Prelude.{◌⊎◌, ◌||◌, Result, Ok, Err, IfOk}
 use Rattle.std.proofs.lemmas.Bool.{and_left, ne_eqb, or_from, lt-ltb}
@@ -9,13 +9,10 @@ use Rattle.run_io.specs.Bytes.{followed_by, is_end_at}
 use Rattle.run_io.specs.declared.outside.Failed.{Failed}
 use Rattle.run_io.specs.Fault.{last_count}
 use Rattle.run_io.proofs.Laws.{appended_nothing, followed_by_twice, followed_by_nothing}
-use Rattle.icnf_text.specs.declared.statements.Statement.{Statement}
-use Rattle.icnf_text.specs.declared.statements.Statement.TheVariants.{Clause, Cube}
 use Rattle.icnf_text.specs.declared.statements.Numbered.{Numbered}
-use Rattle.icnf_text.specs.Judgement.{statements}
 use Rattle.icnf_text.specs.Jobs.{jobs_after}
 use Rattle.icnf_text.specs.Machine.{State, HasRead}
-use Rattle.icnf_text.proofs.Fronts.{all_counted, few_statements, nothing_stated, nothing_wrong}
+use Rattle.icnf_text.proofs.Fronts.{all_counted, nothing_stated, nothing_wrong}
 use Rattle.tarmo_run.specs.declared.endings.Ending.{Ending}
 use Rattle.tarmo_run.specs.declared.endings.Ending.TheVariants.{Unread}
 use Rattle.tarmo_run.specs.Output.{AreBlocks, jobs_in, unnumbered}
@@ -23,31 +20,17 @@ use Rattle.tarmo_run.specs.Written.{Broke, IsCaughtUp, Showed, ShowedAll, TookFr
 use Rattle.tarmo_run.proofs.Closing.{nothing_caught}
 
 -- how far a run has come in its text
-pub record Reached (reader : State) (clauses : List (List ℕ)) (jobs : ℕ) (left_before left_now before now : Option (List ℕ)) : Type 0 where
+pub record Reached (trace : Bool) (reader : State) (clauses : List (List ℕ)) (jobs : ℕ) (left_before left_now before now : Option (List ℕ)) : Type 0 where
   pub bytes : List ℕ
   pub gave : left_before ≡ followed_by bytes left_now
-  pub up : IsCaughtUp reader clauses jobs bytes before now
+  pub up : IsCaughtUp trace reader clauses jobs bytes before now
 
-pub nothing_reached : (reader : State) (clauses : List (List ℕ)) (jobs : ℕ) (left before : Option (List ℕ)) → HasRead reader [] → clauses ≡ [] → jobs ≡ 0 → Reached reader clauses jobs left left before before
-nothing_reached reader clauses jobs left before read none zero = record {
+pub nothing_reached : (trace : Bool) (reader : State) (clauses : List (List ℕ)) (jobs : ℕ) (left before : Option (List ℕ)) → HasRead reader [] → clauses ≡ [] → jobs ≡ 0 → Reached trace reader clauses jobs left left before before
+nothing_reached trace reader clauses jobs left before read none zero = record {
   bytes = [];
   gave = sym (followed_by_nothing left);
-  up = rw none (rw zero (nothing_caught reader before read));
+  up = rw none (rw zero (nothing_caught trace reader before read));
 }
-
-few_by : (statement : Statement) (clauses : List (List ℕ)) (list : List Numbered) → ((clauses : List (List ℕ)) → length (jobs_after clauses (unnumbered list)) ≤ length list) → length (jobs_after clauses (statement ∷ unnumbered list)) ≤ length list + 1
-few_by (Clause clause) clauses list rest = let few = rest (clauses ++ clause ∷ []) in omega (arith, few)
-few_by (Cube cube) clauses list rest = let few = rest clauses in omega (arith, few)
-
--- at most one job for each statement
-jobs_few : (clauses : List (List ℕ)) (list : List Numbered) → length (jobs_after clauses (unnumbered list)) ≤ length list
-jobs_few clauses [] = omega arith
-jobs_few clauses (numbered ∷ list) = let few = few_by numbered.statement clauses list (λ c. jobs_few c list) in omega (arith, few)
-
-pub few_reached : (reader : State) (clauses : List (List ℕ)) (jobs : ℕ) (left_before left_now before now : Option (List ℕ)) → Reached reader clauses jobs left_before left_now before now → jobs ≤ 4294967296
-few_reached reader clauses jobs left_before left_now before now reached =
-    let up = reached.up in
-    omega (arith, up.answered.counted, jobs_few [] (statements reached.bytes false), few_statements reached.bytes, (all_counted reader reached.bytes up.read up.right).1)
 
 pub unfailing : (before now : ℕ) → now ≡ before → nat_lt before now ≡ false
 unfailing before now same = grind (arith, nat_tests)
@@ -67,52 +50,52 @@ ends_here before now count room is none some = is ∙ ap (λ b. before || b) (rw
 read_on : (before middle after : Option (List ℕ)) (bytes piece : List ℕ) → before ≡ followed_by bytes middle → middle ≡ followed_by piece after → before ≡ followed_by (bytes ++ piece) after
 read_on before middle after bytes piece first second = first ∙ ap (followed_by bytes) second ∙ followed_by_twice bytes piece after
 
-pub rest_showed : (result : Result Ending Failed) (reader : State) (clauses : List (List ℕ)) (jobs count : ℕ) (buffer : List ℕ) (left_before left_middle left_after : Option (List ℕ)) (ended failed : Bool) (before now after : Option (List ℕ)) →
-    ended ≡ true → failed ≡ false → count ≡ 0 → left_middle ≡ followed_by (take count buffer) left_after → Reached reader clauses jobs left_before left_middle before now →
-    IfOk result (λ ending. (bytes : List ℕ) (before : Option (List ℕ)) (failed : Bool) → failed ≡ false → IsCaughtUp reader clauses jobs bytes before now → Showed ending (record { bytes = bytes; ended = true; failed = failed }) before after) →
-    IfOk result (λ ending. ShowedAll ending left_before left_after ended failed before after)
-rest_showed (Ok ending) reader clauses jobs count buffer left_before left_middle left_after ended failed before now after end unfailed none gave reached showed = record {
+pub rest_showed : (trace : Bool) (result : Result Ending Failed) (reader : State) (clauses : List (List ℕ)) (jobs count : ℕ) (buffer : List ℕ) (left_before left_middle left_after : Option (List ℕ)) (ended failed : Bool) (before now after : Option (List ℕ)) →
+    ended ≡ true → failed ≡ false → count ≡ 0 → left_middle ≡ followed_by (take count buffer) left_after → Reached trace reader clauses jobs left_before left_middle before now →
+    IfOk result (λ ending. (bytes : List ℕ) (before : Option (List ℕ)) (failed : Bool) → failed ≡ false → IsCaughtUp trace reader clauses jobs bytes before now → Showed trace ending (record { bytes = bytes; ended = true; failed = failed }) before after) →
+    IfOk result (λ ending. ShowedAll trace ending left_before left_after ended failed before after)
+rest_showed trace (Ok ending) reader clauses jobs count buffer left_before left_middle left_after ended failed before now after end unfailed none gave reached showed = record {
   bytes = reached.bytes;
   gave = reached.gave ∙ ap (followed_by reached.bytes) (gave ∙ ap (λ n. followed_by (take n buffer) left_after) none ∙ followed_by_nothing left_after);
   showed = rw end (showed reached.bytes before failed unfailed reached.up);
 }
-rest_showed (Err e) reader clauses jobs count buffer left_before left_middle left_after ended failed before now after end unfailed none gave reached showed = tt
+rest_showed trace (Err e) reader clauses jobs count buffer left_before left_middle left_after ended failed before now after end unfailed none gave reached showed = tt
 
-pub piece_broke : (reader : State) (clauses : List (List ℕ)) (jobs : ℕ) (piece : List ℕ) (left_before left_middle left_after : Option (List ℕ)) (ended : Bool) (before now after : Option (List ℕ)) →
-    ended ≡ false → left_middle ≡ followed_by piece left_after → Reached reader clauses jobs left_before left_middle before now →
-    ((bytes : List ℕ) (before : Option (List ℕ)) → IsCaughtUp reader clauses jobs bytes before now → TookFront 1 (jobs_in (bytes ++ piece) false) before after) → Broke left_before left_after ended before after
-piece_broke reader clauses jobs piece left_before left_middle left_after ended before now after unended gave reached front = record {
+pub piece_broke : (trace : Bool) (reader : State) (clauses : List (List ℕ)) (jobs : ℕ) (piece : List ℕ) (left_before left_middle left_after : Option (List ℕ)) (ended : Bool) (before now after : Option (List ℕ)) →
+    ended ≡ false → left_middle ≡ followed_by piece left_after → Reached trace reader clauses jobs left_before left_middle before now →
+    ((bytes : List ℕ) (before : Option (List ℕ)) → IsCaughtUp trace reader clauses jobs bytes before now → TookFront trace 1 (jobs_in (bytes ++ piece) false) before after) → Broke trace left_before left_after ended before after
+piece_broke trace reader clauses jobs piece left_before left_middle left_after ended before now after unended gave reached front = record {
   bytes = reached.bytes ++ piece;
   gave = read_on left_before left_middle left_after reached.bytes piece reached.gave gave;
   front = rw unended (front reached.bytes before reached.up);
 }
 
-pub piece_ended : (ending : Ending) (reader : State) (clauses : List (List ℕ)) (jobs : ℕ) (piece : List ℕ) (left_before left_middle left_after : Option (List ℕ)) (ended failed : Bool) (before now after : Option (List ℕ)) →
-    ended ≡ false → failed ≡ false → left_middle ≡ followed_by piece left_after → Reached reader clauses jobs left_before left_middle before now →
-    ((bytes : List ℕ) (before : Option (List ℕ)) (failed : Bool) → failed ≡ false → IsCaughtUp reader clauses jobs bytes before now → Showed ending (record { bytes = bytes ++ piece; ended = false; failed = failed }) before after) →
-    ShowedAll ending left_before left_after ended failed before after
-piece_ended ending reader clauses jobs piece left_before left_middle left_after ended failed before now after unended unfailed gave reached showed = record {
+pub piece_ended : (trace : Bool) (ending : Ending) (reader : State) (clauses : List (List ℕ)) (jobs : ℕ) (piece : List ℕ) (left_before left_middle left_after : Option (List ℕ)) (ended failed : Bool) (before now after : Option (List ℕ)) →
+    ended ≡ false → failed ≡ false → left_middle ≡ followed_by piece left_after → Reached trace reader clauses jobs left_before left_middle before now →
+    ((bytes : List ℕ) (before : Option (List ℕ)) (failed : Bool) → failed ≡ false → IsCaughtUp trace reader clauses jobs bytes before now → Showed trace ending (record { bytes = bytes ++ piece; ended = false; failed = failed }) before after) →
+    ShowedAll trace ending left_before left_after ended failed before after
+piece_ended trace ending reader clauses jobs piece left_before left_middle left_after ended failed before now after unended unfailed gave reached showed = record {
   bytes = reached.bytes ++ piece;
   gave = read_on left_before left_middle left_after reached.bytes piece reached.gave gave;
   showed = rw unended (showed reached.bytes before failed unfailed reached.up);
 }
 
 -- the run goes on behind a piece
-pub piece_reached : (old new : State) (c0 c1 : List (List ℕ)) (j0 j1 : ℕ) (piece : List ℕ) (left_before left_middle left_after before now after : Option (List ℕ)) →
-    left_middle ≡ followed_by piece left_after → Reached old c0 j0 left_before left_middle before now →
-    ((bytes : List ℕ) (before : Option (List ℕ)) (failed : Bool) → failed ≡ false → IsCaughtUp old c0 j0 bytes before now → IsCaughtUp new c1 j1 (bytes ++ piece) before after) → Reached new c1 j1 left_before left_after before after
-piece_reached old new c0 c1 j0 j1 piece left_before left_middle left_after before now after gave reached up = record {
+pub piece_reached : (trace : Bool) (old new : State) (c0 c1 : List (List ℕ)) (j0 j1 : ℕ) (piece : List ℕ) (left_before left_middle left_after before now after : Option (List ℕ)) →
+    left_middle ≡ followed_by piece left_after → Reached trace old c0 j0 left_before left_middle before now →
+    ((bytes : List ℕ) (before : Option (List ℕ)) (failed : Bool) → failed ≡ false → IsCaughtUp trace old c0 j0 bytes before now → IsCaughtUp trace new c1 j1 (bytes ++ piece) before after) → Reached trace new c1 j1 left_before left_after before after
+piece_reached trace old new c0 c1 j0 j1 piece left_before left_middle left_after before now after gave reached up = record {
   bytes = reached.bytes ++ piece;
   gave = read_on left_before left_middle left_after reached.bytes piece reached.gave gave;
   up = up reached.bytes before false refl reached.up;
 }
 
 -- each piece brings the text nearer to the most bytes that it may have
-pub nearer : (old new : State) (c0 c1 : List (List ℕ)) (j0 j1 count : ℕ) (buffer : List ℕ) (left_before left_middle before now after : Option (List ℕ)) →
-    Reached old c0 j0 left_before left_middle before now →
-    ((bytes : List ℕ) (before : Option (List ℕ)) (failed : Bool) → failed ≡ false → IsCaughtUp old c0 j0 bytes before now → IsCaughtUp new c1 j1 (bytes ++ take count buffer) before after) →
+pub nearer : (trace : Bool) (old new : State) (c0 c1 : List (List ℕ)) (j0 j1 count : ℕ) (buffer : List ℕ) (left_before left_middle before now after : Option (List ℕ)) →
+    Reached trace old c0 j0 left_before left_middle before now →
+    ((bytes : List ℕ) (before : Option (List ℕ)) (failed : Bool) → failed ≡ false → IsCaughtUp trace old c0 j0 bytes before now → IsCaughtUp trace new c1 j1 (bytes ++ take count buffer) before after) →
     (count ≡ 0 → ⊥) → count ≤ length buffer → 4294967296 - new.bytes < 4294967296 - old.bytes
-nearer old new c0 c1 j0 j1 count buffer left_before left_middle before now after reached next some within =
+nearer trace old new c0 c1 j0 j1 count buffer left_before left_middle before now after reached next some within =
     let up = next reached.bytes before false refl reached.up in
     let was = all_counted old reached.bytes reached.up.read reached.up.right in
     let is = all_counted new (reached.bytes ++ take count buffer) up.read up.right in
@@ -127,13 +110,13 @@ failing before now below (inl rose) = lt-ltb before now rose
 failing before now below (inr last) = lt-ltb before now (omega (arith, last, below))
 
 -- the source failed before anything was read
-pub showed_unstarted : (left_before left_after : Option (List ℕ)) (ended failed : Bool) (before : Option (List ℕ)) → left_after ≡ left_before → ended ≡ false → failed ≡ true → ShowedAll Unread left_before left_after ended failed before before
-showed_unstarted left_before left_after ended failed before same unended failing = record {
+pub showed_unstarted : (trace : Bool) (left_before left_after : Option (List ℕ)) (ended failed : Bool) (before : Option (List ℕ)) → left_after ≡ left_before → ended ≡ false → failed ≡ true → ShowedAll trace Unread left_before left_after ended failed before before
+showed_unstarted trace left_before left_after ended failed before same unended failing = record {
   bytes = [];
   gave = sym same ∙ sym (followed_by_nothing left_after);
   showed = rw unended (record {
     blocks = [];
-    shown = (failing, nothing_wrong, subst (λ (list : List Numbered). AreBlocks 1 (jobs_after [] (unnumbered list)) []) (sym nothing_stated) refl);
+    shown = (failing, nothing_wrong, subst (λ (list : List Numbered). AreBlocks trace 1 (jobs_after [] (unnumbered list)) []) (sym nothing_stated) refl);
     taken = sym (appended_nothing before);
   });
 }

@@ -1,42 +1,34 @@
--- The text of an answer.
-use Rattle.std.specs.Prelude.{◌≡◌, ℕ, ◌+◌, Bool, not, if◌then◌else◌, List, [], ◌∷◌, ◌++◌, codes, IsTrue, ◌⊎◌}
-use Rattle.std.specs.Fmt.{decimal}
-use Rattle.sat_base.specs.Lit.{is_negative, variable, is_ascending}
+-- The block of a right answer to a job.
+use Rattle.std.specs.Prelude.{◌≡◌, ℕ, Bool, true, false, List, [], length, ◌⊎◌}
 use Rattle.sat_base.specs.Truth.{IsModelOf, IsRefutedPart}
+use Rattle.trace_core.specs.Known.{Known}
+use Rattle.trace_core.specs.Trace.{IsTrace}
+use Rattle.trace_core.specs.declared.derivation.Step.{Step}
+use Rattle.search_core.specs.Solver.{clauses_of}
+use Rattle.verdict_text.specs.Block.{IsBlock}
+use Rattle.verdict_text.specs.declared.blocks.Shown.TheVariants as shown
 
--- a variable with its sign, as DIMACS writes a literal
-abbrev pub signed_text : Bool → ℕ → List ℕ
-signed_text negative var = (if negative then codes "-" else []) ++ decimal var
-
--- each literal and a space
-abbrev pub lits_text : List ℕ → List ℕ
-lits_text [] = []
-lits_text (lit ∷ lits) = signed_text (is_negative lit) (variable lit) ++ codes " " ++ lits_text lits
-
--- the variables from this one on, each with the sign of its value, and a space
-abbrev pub values_text : ℕ → List Bool → List ℕ
-values_text var [] = []
-values_text var (value ∷ values) = signed_text (not value) var ++ codes " " ++ values_text (var + 1) values
-
-abbrev pub model_block : ℕ → List Bool → List ℕ
-model_block job values = codes "j " ++ decimal job ++ codes " SATISFIABLE\nv " ++ values_text 1 values ++ codes "0\n"
-
-abbrev pub part_block : ℕ → List ℕ → List ℕ
-part_block job part = codes "j " ++ decimal job ++ codes " UNSATISFIABLE\nf " ++ lits_text part ++ codes "0\n"
-
--- the text of a model of the query
-pub record IsModelBlock (job : ℕ) (clauses : List (List ℕ)) (cube : List ℕ) (text : List ℕ) : Type 0 where
+-- the block of a model of the query, as the job of that number
+pub record IsModelBlock (number : ℕ) (clauses : List (List ℕ)) (cube text : List ℕ) : Type 0 where
   pub values : List Bool
   pub right : IsModelOf clauses cube values
-  pub written : text ≡ model_block job values
+  pub block : IsBlock (length clauses) (record { job = number; shown = shown.Model values }) text
 
--- the text of a refuted part of the query's cube
-pub record IsPartBlock (job : ℕ) (clauses : List (List ℕ)) (cube : List ℕ) (text : List ℕ) : Type 0 where
+-- the steps under a refuted part: a trace of it where traces are asked for, and else none
+abbrev pub IsTraced : Bool → List Known → List ℕ → List Step → Type 0
+IsTraced true inputs part steps = IsTrace inputs part steps
+IsTraced false inputs part steps = steps ≡ []
+
+-- The block of a refuted part of the query's cube. Its trace is one over the query's clauses, in their order.
+pub record IsPartBlock (trace : Bool) (number : ℕ) (clauses : List (List ℕ)) (cube text : List ℕ) : Type 0 where
   pub part : List ℕ
-  pub in_order : IsTrue (is_ascending part)
   pub right : IsRefutedPart clauses cube part
-  pub written : text ≡ part_block job part
+  pub inputs : List Known
+  pub of_job : clauses_of inputs ≡ clauses
+  pub steps : List Step
+  pub traced : IsTraced trace inputs part steps
+  pub block : IsBlock (length inputs) (record { job = number; shown = shown.Refuted part steps }) text
 
--- the text of a right answer to the query, as the job of that number
-abbrev pub IsBlock : ℕ → List (List ℕ) → List ℕ → List ℕ → Type 0
-IsBlock job clauses cube text = IsModelBlock job clauses cube text ⊎ IsPartBlock job clauses cube text
+-- the block of a right answer to the query, with or without traces
+abbrev pub IsBlockOf : Bool → ℕ → List (List ℕ) → List ℕ → List ℕ → Type 0
+IsBlockOf trace number clauses cube text = IsModelBlock number clauses cube text ⊎ IsPartBlock trace number clauses cube text

@@ -8,8 +8,8 @@ ghost use Rattle.tarmo_run.specs.Output.{last_line_of, reason_text, status_of};
 ghost use Rattle.tarmo_run.specs.Written.{TookFrontOfLine};
 ghost use Rattle.tarmo_run.specs.declared.endings.Ending.TheVariants as endings;
 
-use crate::blocks::push_number;
 use icnf_text::{Fault, Reason};
+use line_tokens::print_number;
 use run_io::{Failed, Sink, write_all};
 use std::alloc::{AllocError, Global};
 
@@ -98,7 +98,7 @@ fn end_line(alloc: Global, jobs: u64) -> Result<Vec<u8>, AllocError>
 {
     let mut line = Vec::new(alloc);
     line.extend_from_slice(b"end ")?;
-    push_number(&mut line, jobs)?;
+    print_number(&mut line, jobs)?;
     line.extend_from_slice(b"\n")?;
     Ok(line)
 }
@@ -108,7 +108,7 @@ fn refused_line(alloc: Global, fault: Fault) -> Result<Vec<u8>, AllocError>
 {
     let mut line = Vec::new(alloc);
     line.extend_from_slice(b"refused ")?;
-    push_number(&mut line, fault.line)?;
+    print_number(&mut line, fault.line)?;
     line.extend_from_slice(b" ")?;
     line.extend_from_slice(reason_text(fault.reason))?;
     line.extend_from_slice(b"\n")?;

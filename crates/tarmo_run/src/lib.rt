@@ -6,13 +6,13 @@
 #![tactic(auto)]
 
 mod alone;
-mod blocks;
 mod endings;
 mod pieces;
 mod queries;
 mod solving;
 #[cfg(test)]
 mod tests;
+mod words;
 
 pub use alone::{WORDS_REFUSED, run_alone};
 pub use endings::NO_MEMORY;

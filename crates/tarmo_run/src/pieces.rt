@@ -4,11 +4,13 @@ ghost use Rattle.std.specs.Prelude.{◌≡◌, ◌<◌, ◌≤◌, ◌+◌, ◌+
 ghost use Rattle.run_io.specs.Bytes.{IsEmptyWhereTold};
 ghost use Rattle.run_io.specs.Fault.{HasCause, last_count};
 ghost use Rattle.icnf_text.specs.Jobs.{jobs_after};
+ghost use Rattle.tarmo_run.specs.Asked.{IsReady, clauses_read, jobs_read};
 ghost use Rattle.tarmo_run.specs.Output.{jobs_in, unnumbered};
 ghost use Rattle.tarmo_run.specs.Written.{Answered, Broke, IsCaughtUp, Showed, ShowedAll, StoppedBy, TookFront};
 
 use crate::endings::Ending;
 use crate::queries::{Halt, Queries};
+use crate::words::Command;
 use icnf_text::{Fed, Reader};
 use run_io::{Failed, Sink, Source};
 use std::alloc::{AllocError, Global};
@@ -28,14 +30,15 @@ fn buffer(alloc: Global, len: usize) -> Result<Vec<u8>, AllocError>
 /// memory runs out.
 pub(crate) fn show_blocks<S: Source, O: Sink>(
     alloc: Global,
+    command: Command,
     source: &mut S,
     out: &mut O,
 ) -> Result<Ending, Failed>
     requires source_faults { S.faults source.old < last_count }
     requires unread { S.ended source.old ≡ false }
-    ensures showed { IfOk result (λ ending. ShowedAll ending (S.left source.old) (S.left source.new) (S.ended source.new)
+    ensures showed { IfOk result (λ ending. ShowedAll command.trace ending (S.left source.old) (S.left source.new) (S.ended source.new)
         (nat_lt (S.faults source.old) (S.faults source.new)) (O.taken out.old) (O.taken out.new)) }
-    ensures broke { OnErr result (Broke (S.left source.old) (S.left source.new) (S.ended source.new) (O.taken out.old) (O.taken out.new)) }
+    ensures broke { OnErr result (Broke command.trace (S.left source.old) (S.left source.new) (S.ended source.new) (O.taken out.old) (O.taken out.new)) }
     ensures whole { S.ended source.new ≡ true → IsEmptyWhereTold (S.left source.new) }
     ensures later { S.faults source.old ≤ S.faults source.new }
     ensures cause { HasCause (O.faults out.old) (O.faults out.new) result }
@@ -44,7 +47,7 @@ pub(crate) fn show_blocks<S: Source, O: Sink>(
         return Ok(Ending::Exhausted);
     };
     match source.start(None) {
-        Ok(()) => answer_pieces(alloc, &mut buffer, source, out),
+        Ok(()) => answer_pieces(alloc, command, &mut buffer, source, out),
         Err(Failed) => Ok(Ending::Unread),
     }
 }
@@ -52,6 +55,7 @@ pub(crate) fn show_blocks<S: Source, O: Sink>(
 // Reads and answers, a buffer at a time.
 fn answer_pieces<S: Source, O: Sink>(
     alloc: Global,
+    command: Command,
     buffer: &mut [u8],
     source: &mut S,
     out: &mut O,
@@ -59,9 +63,9 @@ fn answer_pieces<S: Source, O: Sink>(
     requires room { 0 < length buffer.old }
     requires source_faults { S.faults source.old < last_count }
     requires unread { S.ended source.old ≡ false }
-    ensures showed { IfOk result (λ ending. ShowedAll ending (S.left source.old) (S.left source.new) (S.ended source.new)
+    ensures showed { IfOk result (λ ending. ShowedAll command.trace ending (S.left source.old) (S.left source.new) (S.ended source.new)
         (nat_lt (S.faults source.old) (S.faults source.new)) (O.taken out.old) (O.taken out.new)) }
-    ensures broke { OnErr result (Broke (S.left source.old) (S.left source.new) (S.ended source.new) (O.taken out.old) (O.taken out.new)) }
+    ensures broke { OnErr result (Broke command.trace (S.left source.old) (S.left source.new) (S.ended source.new) (O.taken out.old) (O.taken out.new)) }
     ensures whole { S.ended source.new ≡ true → IsEmptyWhereTold (S.left source.new) }
     ensures later { S.faults source.old ≤ S.faults source.new }
     ensures cause { HasCause (O.faults out.old) (O.faults out.new) result }
@@ -73,9 +77,9 @@ fn answer_pieces<S: Source, O: Sink>(
             return Ok(Ending::Unread);
         };
         if count == 0 {
-            return answer_rest(reader, &mut queries, out);
+            return answer_rest(reader, &mut queries, command, out);
         }
-        match answer_piece(&mut reader, &mut queries, &buffer[..count], out)? {
+        match answer_piece(&mut reader, &mut queries, command, &buffer[..count], out)? {
             Some(ending) => return Ok(ending),
             None => {}
         }
@@ -86,22 +90,24 @@ fn answer_pieces<S: Source, O: Sink>(
 fn answer_piece<O: Sink>(
     reader: &mut Reader,
     queries: &mut Queries,
+    command: Command,
     piece: &[u8],
     out: &mut O,
 ) -> Result<Option<Ending>, Failed>
-    requires few { queries.old.jobs ≤ 4294967296 }
+    requires ready { IsReady queries.old }
     ensures showed { IfOk result (λ stop. (bytes : List ℕ) (before : Option (List ℕ)) (failed : Bool) → failed ≡ false →
-        IsCaughtUp reader.old queries.old.clauses.items queries.old.jobs bytes before (O.taken out.old) →
+        IsCaughtUp command.trace reader.old (clauses_read queries.old) (jobs_read queries.old) bytes before (O.taken out.old) →
         MatchOption stop
-        (IsCaughtUp reader.new queries.new.clauses.items queries.new.jobs (bytes ++ piece.now) before (O.taken out.new))
-        (λ ending. Showed ending (record { bytes = bytes ++ piece.now; ended = false; failed = failed }) before (O.taken out.new))) }
+        (IsCaughtUp command.trace reader.new (clauses_read queries.new) (jobs_read queries.new) (bytes ++ piece.now) before (O.taken out.new))
+        (λ ending. Showed command.trace ending (record { bytes = bytes ++ piece.now; ended = false; failed = failed }) before (O.taken out.new))) }
+    ensures ready { IfOk result (λ stop. stop ≡ None → IsReady queries.new) }
     ensures broke { OnErr result ((bytes : List ℕ) (before : Option (List ℕ)) →
-        IsCaughtUp reader.old queries.old.clauses.items queries.old.jobs bytes before (O.taken out.old) →
-        TookFront 1 (jobs_in (bytes ++ piece.now) false) before (O.taken out.new)) }
+        IsCaughtUp command.trace reader.old (clauses_read queries.old) (jobs_read queries.old) bytes before (O.taken out.old) →
+        TookFront command.trace 1 (jobs_in (bytes ++ piece.now) false) before (O.taken out.new)) }
     ensures cause { HasCause (O.faults out.old) (O.faults out.new) result }
 {
     match reader.feed(piece) {
-        Ok(fed) => answer_fed(queries, fed, out),
+        Ok(fed) => answer_fed(queries, command, fed, out),
         Err(_) => Ok(Some(Ending::Exhausted)),
     }
 }
@@ -110,21 +116,22 @@ fn answer_piece<O: Sink>(
 fn answer_rest<O: Sink>(
     reader: Reader,
     queries: &mut Queries,
+    command: Command,
     out: &mut O,
 ) -> Result<Ending, Failed>
-    requires few { queries.old.jobs ≤ 4294967296 }
+    requires ready { IsReady queries.old }
     ensures showed { IfOk result (λ ending. (bytes : List ℕ) (before : Option (List ℕ)) (failed : Bool) → failed ≡ false →
-        IsCaughtUp reader queries.old.clauses.items queries.old.jobs bytes before (O.taken out.old) →
-        Showed ending (record { bytes = bytes; ended = true; failed = failed }) before (O.taken out.new)) }
+        IsCaughtUp command.trace reader (clauses_read queries.old) (jobs_read queries.old) bytes before (O.taken out.old) →
+        Showed command.trace ending (record { bytes = bytes; ended = true; failed = failed }) before (O.taken out.new)) }
     ensures broke { OnErr result ((bytes : List ℕ) (before : Option (List ℕ)) →
-        IsCaughtUp reader queries.old.clauses.items queries.old.jobs bytes before (O.taken out.old) →
-        TookFront 1 (jobs_in bytes true) before (O.taken out.new)) }
+        IsCaughtUp command.trace reader (clauses_read queries.old) (jobs_read queries.old) bytes before (O.taken out.old) →
+        TookFront command.trace 1 (jobs_in bytes true) before (O.taken out.new)) }
     ensures cause { HasCause (O.faults out.old) (O.faults out.new) result }
 {
     match reader.finish() {
-        Ok(fed) => match answer_fed(queries, fed, out)? {
+        Ok(fed) => match answer_fed(queries, command, fed, out)? {
             Some(ending) => Ok(ending),
-            None => Ok(Ending::Complete(queries.jobs)),
+            None => Ok(Ending::Complete(queries.jobs() as u64)),
         },
         Err(_) => Ok(Ending::Exhausted),
     }
@@ -134,17 +141,19 @@ fn answer_rest<O: Sink>(
 // runs out.
 fn answer_fed<O: Sink>(
     queries: &mut Queries,
+    command: Command,
     fed: Fed,
     out: &mut O,
 ) -> Result<Option<Ending>, Failed>
-    requires few { queries.old.jobs ≤ 4294967296 }
+    requires ready { IsReady queries.old }
     ensures stopped { IfOk result (λ stop. MatchOption stop
-        ((fed.fault ≡ None) × Answered queries.old.clauses.items queries.old.jobs fed.statements queries.new.clauses.items queries.new.jobs (O.taken out.old) (O.taken out.new))
-        (λ ending. StoppedBy ending fed.fault (queries.old.jobs + 1) (jobs_after queries.old.clauses.items (unnumbered fed.statements)) (O.taken out.old) (O.taken out.new))) }
-    ensures broke { OnErr result (TookFront (queries.old.jobs + 1) (jobs_after queries.old.clauses.items (unnumbered fed.statements)) (O.taken out.old) (O.taken out.new)) }
+        ((fed.fault ≡ None) × Answered command.trace (clauses_read queries.old) (jobs_read queries.old) fed.statements (clauses_read queries.new) (jobs_read queries.new) (O.taken out.old) (O.taken out.new))
+        (λ ending. StoppedBy command.trace ending fed.fault (jobs_read queries.old + 1) (jobs_after (clauses_read queries.old) (unnumbered fed.statements)) (O.taken out.old) (O.taken out.new))) }
+    ensures ready { IfOk result (λ stop. stop ≡ None → IsReady queries.new) }
+    ensures broke { OnErr result (TookFront command.trace (jobs_read queries.old + 1) (jobs_after (clauses_read queries.old) (unnumbered fed.statements)) (O.taken out.old) (O.taken out.new)) }
     ensures cause { HasCause (O.faults out.old) (O.faults out.new) result }
 {
-    match queries.answer(fed.statements.into_items(), out) {
+    match queries.answer(command, fed.statements.into_items(), out) {
         Ok(()) => Ok(fed.fault.map(Ending::Refused)),
         Err(Halt::Memory) => Ok(Some(Ending::Exhausted)),
         Err(Halt::Unwritten) => Err(Failed),

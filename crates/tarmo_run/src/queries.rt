@@ -1,16 +1,25 @@
 //! The queries of a text, answered in order.
 
-ghost use Rattle.std.specs.Prelude.{◌≡◌, ◌<◌, ◌+◌, ◌^◌, ◌∷◌, [], length, OnOk, MatchResult};
+ghost use Rattle.std.specs.Prelude.{◌≡◌, ◌+◌, ◌++◌, ◌∷◌, [], OnOk, IfOk, MatchResult};
 ghost use Rattle.icnf_text.specs.Jobs.{jobs_after};
+ghost use Rattle.tarmo_run.specs.Asked.{IsLoaded, IsReady, clauses_read, jobs_read};
+ghost use Rattle.tarmo_run.specs.Block.{IsBlockOf};
 ghost use Rattle.tarmo_run.specs.Output.{unnumbered};
 ghost use Rattle.tarmo_run.specs.Stop.{IsHalt};
 ghost use Rattle.tarmo_run.specs.Written.{Answered, TookBlocks, WroteUntil, of_cube};
 
-use crate::blocks::solved_block;
+use crate::solving::solved_block;
+use crate::words::Command;
 use icnf_text::{Numbered, Statement};
 use run_io::{Failed, Sink, write_all};
 use sat_base::{Clause, Cube};
+use session::Session;
 use std::alloc::{AllocError, Global};
+
+// As many as a text can have.
+const MOST_CLAUSES: u64 = 16_777_216;
+
+const MOST_JOBS: u32 = 1_048_576;
 
 /// Why writing the blocks of jobs stopped.
 #[derive(Clone, Copy, Debug, PartialEq, Eq)]
@@ -32,80 +41,141 @@ impl From<AllocError> for Halt {
     }
 }
 
-/// The clauses so far, which all later queries have, and how many jobs are answered.
+/// The queries of a text: one session, which has the clauses of the jobs so far, and the clauses behind the last
+/// cube.
 #[derive(Drop)]
 pub(crate) struct Queries {
     alloc: Global,
-    pub(crate) clauses: Vec<Clause>,
-    pub(crate) jobs: u64,
+    session: Session,
+    pending: Vec<Clause>,
 }
 
 impl Queries {
     pub(crate) fn new(alloc: Global) -> Queries
-        ensures clauses { result.clauses.items ≡ [] }
-        ensures jobs { result.jobs ≡ 0 }
+        ensures clauses { clauses_read result ≡ [] }
+        ensures jobs { jobs_read result ≡ 0 }
+        ensures ready { IsReady result }
     {
         Queries {
             alloc,
-            clauses: Vec::new(alloc),
-            jobs: 0,
+            session: Session::new(alloc, 0),
+            pending: Vec::new(alloc),
         }
     }
 
+    /// How many jobs there were.
+    pub(crate) fn jobs(&self) -> u32
+        ensures { result ≡ jobs_read self.now }
+    {
+        self.session.bound()
+    }
+
     /// Keeps each clause, and writes the block of each cube's job as a piece of its own.
-    pub(crate) fn answer<O: Sink>(&mut self, list: Vec<Numbered>, out: &mut O) -> Result<(), Halt>
-        requires few { self.old.jobs + length list.items < 2 ^ 64 }
+    pub(crate) fn answer<O: Sink>(
+        &mut self,
+        command: Command,
+        list: Vec<Numbered>,
+        out: &mut O,
+    ) -> Result<(), Halt>
+        requires ready { IsReady self.old }
         ensures wrote { MatchResult result
-            (λ _. Answered self.old.clauses.items self.old.jobs list.items self.new.clauses.items self.new.jobs (O.taken out.old) (O.taken out.new))
-            (λ halt. WroteUntil halt (self.old.jobs + 1) (jobs_after self.old.clauses.items (unnumbered list.items)) (O.taken out.old) (O.taken out.new)) }
+            (λ _. Answered command.trace (clauses_read self.old) (jobs_read self.old) list.items (clauses_read self.new) (jobs_read self.new) (O.taken out.old) (O.taken out.new))
+            (λ halt. WroteUntil command.trace halt (jobs_read self.old + 1) (jobs_after (clauses_read self.old) (unnumbered list.items)) (O.taken out.old) (O.taken out.new)) }
+        ensures ready { OnOk result (IsReady self.new) }
         ensures cause { MatchResult result
             (λ _. O.faults out.new ≡ O.faults out.old)
             (λ halt. IsHalt halt (O.faults out.old) (O.faults out.new)) }
     {
         for numbered in list {
-            self.answer_one(numbered, out)?;
+            self.answer_one(command, numbered, out)?;
         }
         Ok(())
     }
 
-    fn answer_one<O: Sink>(&mut self, numbered: Numbered, out: &mut O) -> Result<(), Halt>
-        requires few { self.old.jobs + 1 < 2 ^ 64 }
+    fn answer_one<O: Sink>(
+        &mut self,
+        command: Command,
+        numbered: Numbered,
+        out: &mut O,
+    ) -> Result<(), Halt>
+        requires ready { IsReady self.old }
         ensures wrote { MatchResult result
-            (λ _. Answered self.old.clauses.items self.old.jobs (numbered ∷ []) self.new.clauses.items self.new.jobs (O.taken out.old) (O.taken out.new))
-            (λ halt. WroteUntil halt (self.old.jobs + 1) (jobs_after self.old.clauses.items (unnumbered (numbered ∷ []))) (O.taken out.old) (O.taken out.new)) }
+            (λ _. Answered command.trace (clauses_read self.old) (jobs_read self.old) (numbered ∷ []) (clauses_read self.new) (jobs_read self.new) (O.taken out.old) (O.taken out.new))
+            (λ halt. WroteUntil command.trace halt (jobs_read self.old + 1) (jobs_after (clauses_read self.old) (unnumbered (numbered ∷ []))) (O.taken out.old) (O.taken out.new)) }
+        ensures ready { OnOk result (IsReady self.new) }
         ensures cause { MatchResult result
             (λ _. O.faults out.new ≡ O.faults out.old)
             (λ halt. IsHalt halt (O.faults out.old) (O.faults out.new)) }
     {
         match numbered.statement {
             Statement::Clause(clause) => {
-                if self.clauses.push(clause).is_err() {
-                    return Err(Halt::Memory);
-                }
+                self.keep(clause)?;
                 Ok(())
             }
-            Statement::Cube(cube) => self.answer_cube(&cube, out),
+            Statement::Cube(cube) => self.answer_cube(command, &cube, out),
         }
     }
 
+    // Keeps the clause for the next job.
+    fn keep(&mut self, clause: Clause) -> Result<(), AllocError>
+        requires ready { IsReady self.old }
+        ensures known { OnOk result (clauses_read self.new ≡ clauses_read self.old ++ clause ∷ []) }
+        ensures jobs { jobs_read self.new ≡ jobs_read self.old }
+        ensures ready { OnOk result (IsReady self.new) }
+    {
+        let _ = clause.lits();
+        if self.pending.push(clause).is_err() {
+            return Err(AllocError);
+        }
+        Ok(())
+    }
+
     // Writes the block of the next job, which has this cube.
-    fn answer_cube<O: Sink>(&mut self, cube: &Cube, out: &mut O) -> Result<(), Halt>
-        requires few { self.old.jobs + 1 < 2 ^ 64 }
+    fn answer_cube<O: Sink>(
+        &mut self,
+        command: Command,
+        cube: &Cube,
+        out: &mut O,
+    ) -> Result<(), Halt>
+        requires ready { IsReady self.old }
         ensures wrote { MatchResult result
-            (λ _. TookBlocks (self.old.jobs + 1) (of_cube self.old.clauses.items cube.now) (O.taken out.old) (O.taken out.new))
-            (λ halt. WroteUntil halt (self.old.jobs + 1) (of_cube self.old.clauses.items cube.now) (O.taken out.old) (O.taken out.new)) }
-        ensures known { OnOk result ((self.new.clauses.items ≡ self.old.clauses.items) × (self.new.jobs ≡ self.old.jobs + 1)) }
+            (λ _. TookBlocks command.trace (jobs_read self.old + 1) (of_cube (clauses_read self.old) cube.now) (O.taken out.old) (O.taken out.new))
+            (λ halt. WroteUntil command.trace halt (jobs_read self.old + 1) (of_cube (clauses_read self.old) cube.now) (O.taken out.old) (O.taken out.new)) }
+        ensures known { OnOk result ((clauses_read self.new ≡ clauses_read self.old) × (jobs_read self.new ≡ jobs_read self.old + 1)) }
+        ensures ready { OnOk result (IsReady self.new) }
         ensures cause { MatchResult result
             (λ _. O.faults out.new ≡ O.faults out.old)
             (λ halt. IsHalt halt (O.faults out.old) (O.faults out.new)) }
     {
-        let block = solved_block(self.alloc, self.jobs + 1, &self.clauses, cube)?;
+        let block = self.solve(command, cube)?;
         match write_all(out, &block) {
-            Ok(()) => {
-                self.jobs += 1;
-                Ok(())
-            }
+            Ok(()) => Ok(()),
             Err(Failed) => Err(Halt::Unwritten),
         }
+    }
+
+    // The block of the next job, which has this cube.
+    fn solve(&mut self, command: Command, cube: &Cube) -> Result<Vec<u8>, AllocError>
+        requires ready { IsReady self.old }
+        ensures block { IfOk result (λ text. IsBlockOf command.trace (jobs_read self.old + 1) (clauses_read self.old) cube.now text.items) }
+        ensures known { OnOk result ((clauses_read self.new ≡ clauses_read self.old) × (jobs_read self.new ≡ jobs_read self.old + 1)) }
+        ensures ready { OnOk result (IsReady self.new) }
+    {
+        self.load(cube)?;
+        solved_block(self.alloc, &mut self.session, cube, command.trace)
+    }
+
+    // Loads the clauses behind the last cube. More clauses or jobs than a text can have count as want of memory.
+    fn load(&mut self, cube: &Cube) -> Result<(), AllocError>
+        requires ready { IsReady self.old }
+        ensures loaded { OnOk result (IsLoaded self.old self.new) }
+    {
+        let clauses = u64::from(self.session.inputs()) + self.pending.len() as u64;
+        if clauses > MOST_CLAUSES || self.session.bound() >= MOST_JOBS {
+            return Err(AllocError);
+        }
+        self.session.load(&self.pending, cube)?;
+        self.pending.clear();
+        Ok(())
     }
 }

@@ -1,61 +1,70 @@
-//! One query after the other, each with a search of its own.
+//! The answer to a job, from the session that has its clauses.
 
-ghost use Rattle.std.specs.Prelude.{◌≡◌, ◌≤◌, ◌∷◌, [], ◌++◌, OnOk, IfOk};
-ghost use Rattle.search_core.specs.Searching.{IsSearching};
-ghost use Rattle.search_core.specs.Solver.{clauses_of, inputs_of};
+ghost use Rattle.std.specs.Prelude.{◌≡◌, ◌≤◌, [], length, IfOk, OnOk};
+ghost use Rattle.search_core.specs.Answering.{IsRight};
+ghost use Rattle.search_core.specs.Solver.{clauses_of};
+ghost use Rattle.tarmo_run.specs.Asked.{IsAlone, IsSameQuestion};
+ghost use Rattle.tarmo_run.specs.Block.{IsBlockOf};
 ghost use Rattle.tarmo_run.specs.Solved.{IsRightAnswer};
 
-use sat_base::{Clause, Cube};
-use search_core::{Answer, Search, add_input, solve_until_answered};
+use entry_core::{Answer, Verdict};
+use sat_base::Cube;
+use session::Session;
 use std::alloc::{AllocError, Global};
+use std::sync::Arc;
+use trace_core::Steps;
+use trace_trim::trim;
+use verdict_text::block;
 
 // So many clauses are learnt in a round.
 const ROUND: u64 = 256;
 
-// As many as a text can have.
-const MOST_CLAUSES: u32 = 16_777_216;
-
-/// A model of the query, or a refutation, and then the whole cube is a refuted part too.
-pub(crate) fn find_answer(
+/// The block of the job that is loaded, which has this cube: a model of it, or a refuted part of its cube, with its
+/// trace where traces are asked for.
+pub(crate) fn solved_block(
     alloc: Global,
-    clauses: &[Clause],
+    session: &mut Session,
     cube: &Cube,
+    trace: bool,
+) -> Result<Vec<u8>, AllocError>
+    requires alone { IsAlone session.old.solver (clauses_of session.old.solver.inputs) }
+    requires few { length session.old.solver.inputs ≤ 16777216 }
+    ensures block { IfOk result (λ text. IsBlockOf trace session.old.solver.bound (clauses_of session.old.solver.inputs) cube.now text.items) }
+    ensures same { OnOk result (IsSameQuestion session.old.solver session.new.solver) }
+{
+    let _ = cube.lits();
+    let found = session.solve_until_answered(cube, ROUND)?;
+    let answer = answer_of(alloc, session, cube, found, trace)?;
+    let verdict = Verdict::Answered(Arc::new(alloc, answer)?);
+    block(
+        alloc,
+        session.bound(),
+        &verdict,
+        session.inputs() as u64,
+        trace,
+    )
+}
+
+// What the session found, with the trace of a refuted part where traces are asked for.
+fn answer_of(
+    alloc: Global,
+    session: &Session,
+    cube: &Cube,
+    found: search_core::Answer,
+    trace: bool,
 ) -> Result<Answer, AllocError>
-    ensures { IfOk result (IsRightAnswer clauses.now cube.now) }
+    requires right { IsRight session.now.solver cube.now found }
+    requires packets { session.now.solver.packets ≡ [] }
+    ensures { IfOk result (IsRightAnswer trace session.now.solver.inputs cube.now) }
 {
-    let mut search = Search::new(alloc);
-    load(&mut search, cube, clauses)?;
-    solve_until_answered(&mut search, cube, ROUND)
-}
-
-// Adds the clauses behind the inputs, as those of the first job.
-fn load(search: &mut Search, cube: &Cube, clauses: &[Clause]) -> Result<(), AllocError>
-    requires kept { IsSearching search.old cube.now }
-    requires zero { search.old.trail.depth ≡ 0 }
-    requires bound { search.old.bound ≤ 1 }
-    ensures kept { IsSearching search.new cube.now }
-    ensures zero { search.new.trail.depth ≡ 0 }
-    ensures ok { OnOk result (clauses_of (inputs_of search.new.store.clauses) ≡ clauses_of (inputs_of search.old.store.clauses) ++ clauses.now) }
-{
-    for clause in clauses {
-        load_one(search, cube, clause)?;
+    match found {
+        search_core::Answer::Model(model) => Ok(Answer::Model(model)),
+        search_core::Answer::Refuted(part, number) => {
+            if !trace {
+                return Ok(Answer::Refuted(part, Steps::of(Vec::new(alloc))));
+            }
+            let steps = trim(alloc, &[], session.steps(), number)?;
+            Ok(Answer::Refuted(part, Steps::of(steps)))
+        }
     }
-    Ok(())
-}
-
-// More clauses than a text can have count as want of memory.
-fn load_one(search: &mut Search, cube: &Cube, clause: &Clause) -> Result<(), AllocError>
-    requires kept { IsSearching search.old cube.now }
-    requires zero { search.old.trail.depth ≡ 0 }
-    requires bound { search.old.bound ≤ 1 }
-    ensures kept { IsSearching search.new cube.now }
-    ensures zero { search.new.trail.depth ≡ 0 }
-    ensures bound { OnOk result (search.new.bound ≤ 1) }
-    ensures ok { OnOk result (clauses_of (inputs_of search.new.store.clauses) ≡ clauses_of (inputs_of search.old.store.clauses) ++ clause.now ∷ []) }
-{
-    if search.inputs >= MOST_CLAUSES {
-        return Err(AllocError);
-    }
-    let _ = search.trail.depth();
-    add_input(search, cube, clause, 1)
 }

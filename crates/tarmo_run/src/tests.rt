@@ -1,6 +1,7 @@
 //! Whole runs over a source and a sink in memory.
 
 mod dialogue;
+mod traces;
 
 use crate::{WORDS_REFUSED, run_alone};
 use run_io::{MemorySink, MemorySource};
@@ -26,6 +27,15 @@ const TWO_ANSWERS: &str = "j 1 SATISFIABLE\nv 1 0\nj 2 UNSATISFIABLE\nf 0\nend 2
 struct Outcome {
     status: u8,
     taken: Vec<u8>,
+}
+
+// The words of a command line.
+fn words_of(alloc: Global, line: &str) -> Result<Vec<String>, AllocError> {
+    let mut words = Vec::new(alloc);
+    for word in line.split_whitespace() {
+        words.push(String::from_str(alloc, word)?)?;
+    }
+    Ok(words)
 }
 
 // A run without words over a text that comes in pieces of these sizes and then as many bytes as fit, into a sink
@@ -90,10 +100,27 @@ fn accepted_texts_have_a_block_for_each_job(rt: HostRuntime) -> Result<(), Fail>
             "j 1 SATISFIABLE\nv 1 -2 0\nj 2 SATISFIABLE\nv -1 2 0\nj 3 UNSATISFIABLE\nf 1 2 0\nend 3\n",
             0,
         ),
+        (
+            "p inccnf\n1 0\na -1 2 3 0\n",
+            "j 1 UNSATISFIABLE\nf -1 0\nend 1\n",
+            0,
+        ),
         (COUNTER, COUNTED, 0),
         (PIGEONS, "j 1 UNSATISFIABLE\nf 0\nend 1\n", 0),
     ];
     assert_outputs(rt.alloc(), &rt, &rows)?;
+    Ok(())
+}
+
+#[test]
+fn the_greatest_variable_has_its_block(rt: HostRuntime) -> Result<(), Fail> {
+    let text = b"p inccnf\n8388607 0\na -8388607 0\n";
+    let outcome = run(rt.alloc(), text, &[], &[], (1000, 7), &[])?;
+    assert_eq!(rt;
+        outcome.taken.as_slice(),
+        b"j 1 UNSATISFIABLE\nf -8388607 0\nend 1\n".as_slice()
+    );
+    assert_eq!(rt; outcome.status, 0);
     Ok(())
 }
 
@@ -236,18 +263,30 @@ fn a_failing_sink_takes_a_front(rt: HostRuntime) -> Result<(), Fail> {
     Ok(())
 }
 
-#[test]
-fn words_are_refused(rt: HostRuntime) -> Result<(), Fail> {
-    let alloc = rt.alloc();
-    let words = [String::from_str(alloc, "--help")?];
+// These words are refused, and nothing is read or written: the same source then gives its whole text.
+fn assert_refused(alloc: Global, rt: &impl Abort, line: &str) -> Result<(), AllocError> {
+    let words = words_of(alloc, line)?;
     let bytes = TWO_JOBS.as_bytes().to_vec(alloc)?;
     let mut source = MemorySource::new(bytes, Vec::new(alloc), Vec::new(alloc));
     let mut sink = MemorySink::new(alloc, 1000, 1000, Vec::new(alloc))?;
     let status = run_alone(alloc, &words, &mut source, &mut sink);
-    assert_eq!(rt; status, WORDS_REFUSED);
-    assert_eq!(rt; sink.bytes(), b"".as_slice());
-    // Nothing was read: the same source still gives its whole text.
+    assert_eq!(rt; status, WORDS_REFUSED, "{line}");
+    assert_eq!(rt; sink.bytes(), b"".as_slice(), "{line}");
     assert_eq!(rt; run_alone(alloc, &[], &mut source, &mut sink), 0);
     assert_eq!(rt; sink.bytes(), TWO_ANSWERS.as_bytes());
+    Ok(())
+}
+
+#[test]
+fn words_are_refused(rt: HostRuntime) -> Result<(), Fail> {
+    for line in [
+        "--help",
+        "--trace --trace",
+        "--trace x",
+        "x --trace",
+        "--Trace",
+    ] {
+        assert_refused(rt.alloc(), &rt, line)?;
+    }
     Ok(())
 }

@@ -8,16 +8,16 @@ use Rattle.tarmo_run.proofs.Results.{OnErr-always}
 use Rattle.tarmo_run.proofs.alone.solve.Goals as goal
 
 pub returns-in_err-ending-clause-front : goal.returns-in_err-ending-clause-front
-returns-in_err-ending-clause-front g c = OnErr-always c.from_residual.result (finished_in_blocks _ _ _ _ _ _ c.in_err-ending.ensures.broke)
+returns-in_err-ending-clause-front g c = OnErr-always c.from_residual.result (finished_in_blocks _ _ _ _ _ _ _ c.in_err-ending.ensures.broke)
 
 pub returns-clause-finished : goal.returns-clause-finished
 returns-clause-finished g c =
     IfOk-weaker c.close.result
     (λ told. ((told ≡ c.in_ok-ending.ending) ⊎ (told ≡ endings.Exhausted)) × (g.O.Sink.taken c.close.new.out ≡ appended (g.O.Sink.taken c.show_blocks.new.out) (last_line_of told)))
     _
-    (λ told h. finished c.in_ok-ending.ending told _ _ _ _ _ _ _ c.in_ok-ending.ensures.showed h.0 h.1)
+    (λ told h. finished _ c.in_ok-ending.ending told _ _ _ _ _ _ _ c.in_ok-ending.ensures.showed h.0 h.1)
     c.close.ensures.told
 
 pub returns-clause-front : goal.returns-clause-front
 returns-clause-front g c =
-    on_err_weaker c.close.result (finished_in_line c.in_ok-ending.ending _ _ _ _ _ _ _ c.in_ok-ending.ensures.showed) c.close.ensures.front
+    on_err_weaker c.close.result (finished_in_line _ c.in_ok-ending.ending _ _ _ _ _ _ _ c.in_ok-ending.ensures.showed) c.close.ensures.front
