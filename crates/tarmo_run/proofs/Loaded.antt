@@ -4,7 +4,8 @@ use Rattle.std.proofs.lemmas.List.{length-append, length-map, map-append}
 use Rattle.sat_base.specs.Lit.{IsLitSet, greatest_of_all}
 use Rattle.trace_core.specs.Known.{Known}
 use Rattle.search_core.specs.Solver.{clauses_of}
-use Rattle.session.specs.Session.{SessionView, loaded, tagged}
+use Rattle.search_core.specs.Loading.{loaded, tagged}
+use Rattle.session.specs.Session.{SessionView}
 use Rattle.tarmo_run.specs.declared.queries.Queries.{Queries}
 use Rattle.tarmo_run.specs.Asked.{IsLoaded, IsReady, clauses_read}
 use Rattle.tarmo_run.proofs.Right.{within_more}
