@@ -7,7 +7,7 @@ use Rattle.std.proofs.lemmas.List.Elements.{All-get_or, All-contains, Contains-a
 use Rattle.sat_base.specs.Lit.{IsLit, IsLitSet, IsTautology, is_ascending, variable, opposite, greatest_of, greatest_of_all}
 use Rattle.sat_base.specs.declared.origins.Ref.{Ref}
 use Rattle.sat_base.specs.declared.origins.Ref.TheVariants.{Own}
-use Rattle.sat_base.proofs.Members.{All-from_members, Contains-here, Contains-there, Contains-cases, Contains-from_map}
+use Rattle.sat_base.proofs.Members.{All-from_members, Contains-here, Contains-cases, Contains-from_map}
 use Rattle.sat_base.proofs.Opposite.{opposite-opposite}
 use Rattle.trace_core.specs.Known.{Known, clause_of}
 use Rattle.trace_core.specs.Trace.{known_of}

@@ -1,5 +1,5 @@
 -- A search to which the clauses of one more job come.
-use Rattle.std.proofs.Common.{◌≡◌, ◌∙◌, ℕ, ◌+◌, ◌<◌, ◌≤◌, List, [], ◌∷◌, ◌++◌, length, map, take, drop, refl, ap, sym, subst, arith, get_or}
+use Rattle.std.proofs.Common.{◌≡◌, ◌∙◌, ℕ, ◌+◌, ◌<◌, ◌≤◌, List, [], ◌∷◌, ◌++◌, length, take, refl, ap, sym, subst, arith, get_or}
 use Rattle.std.specs.Prelude.{All, Contains, max}
 use Rattle.std.proofs.lemmas.List.{take_all, take_more, map_push, append-nil, append_assoc}
 use Rattle.std.proofs.Math.Seq.{take-append_seam}

@@ -1,11 +1,11 @@
 -- Parts that are refuted.
-use Rattle.std.proofs.Common.{◌≡◌, ◌∙◌, ℕ, List, [], ◌∷◌, length, map, filter, None, refl, ap, sym, subst, inl, inr, arith}
-use Rattle.std.specs.Prelude.{◌⊎◌, ◌↔◌, All, Contains, nat_le}
+use Rattle.std.proofs.Common.{◌≡◌, ◌∙◌, ℕ, List, [], ◌∷◌, length, map, None, refl, ap, sym, subst, inl, inr, arith}
+use Rattle.std.specs.Prelude.{◌⊎◌, ◌↔◌, All, Contains}
 use Rattle.std.proofs.lemmas.List.Elements.{All-contains}
 use Rattle.sat_base.specs.Lit.{opposite, variable}
-use Rattle.sat_base.specs.Truth.{Entails, clause_true}
+use Rattle.sat_base.specs.Truth.{Entails}
 use Rattle.sat_base.specs.declared.origins.Ref.TheVariants.{Own}
-use Rattle.sat_base.proofs.Members.{All-from_members, Contains-map, Contains-from_map, all_member, all_from_members}
+use Rattle.sat_base.proofs.Members.{All-from_members}
 use Rattle.sat_base.proofs.Opposite.{Contains-negations, variable-opposite}
 use Rattle.sat_base.proofs.Entailment.{sees_members}
 use Rattle.trace_core.specs.Known.{Known}
@@ -22,7 +22,6 @@ use Rattle.search_core.specs.OnTrail.{IsForCube}
 use Rattle.search_core.specs.Units.{KnowsOpposites}
 use Rattle.search_core.specs.Searching.{IsSearching, packets_of, table_of}
 use Rattle.search_core.specs.Refutations.{IsRefutation}
-use Rattle.search_core.proofs.Lists.{Contains-from_filter}
 use Rattle.search_core.proofs.Stocked.{known_follows}
 use Rattle.search_core.proofs.Asserted.{place_of_true}
 use Rattle.search_core.proofs.Reasons.{true_before}

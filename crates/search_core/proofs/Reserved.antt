@@ -9,17 +9,17 @@ use Rattle.sat_base.specs.Lit.{IsLitSet, variable, greatest_of, greatest_of_all}
 use Rattle.sat_base.specs.declared.origins.Ref.{Ref}
 use Rattle.sat_base.specs.declared.origins.Ref.TheVariants.{Input}
 use Rattle.sat_base.proofs.Members.{All-from_members}
-use Rattle.trace_core.specs.Known.{Known, item_at}
+use Rattle.trace_core.specs.Known.{Known}
 use Rattle.clause_arena.specs.Arena.{ArenaClause, lits_of_each}
 use Rattle.trail_core.specs.Trail.{Entry, TrailView, IsTrail, entry_at, no_entry}
 use Rattle.propagate.specs.Store.{StoreView, AreWithin, AreAllWithin}
 use Rattle.analyze.specs.Table.{IsNameOf, unit_of, tag_of_unit}
 use Rattle.search_core.specs.declared.search.Search.{Search}
-use Rattle.search_core.specs.Solver.{Solver, inputs_of, held_of, packet_at, last_step_of, named_by, IsStep, known_clause, clauses_of, is_input}
+use Rattle.search_core.specs.Solver.{inputs_of, held_of, packet_at, last_step_of, named_by, IsStep, known_clause, clauses_of, is_input}
 use Rattle.search_core.specs.Stock.{IsStocked}
 use Rattle.search_core.specs.OnTrail.{IsOnTrail}
 use Rattle.search_core.specs.Units.{IsNamed}
-use Rattle.search_core.specs.Searching.{IsSearching, packets_of, solver_of, table_of}
+use Rattle.search_core.specs.Searching.{IsSearching, packets_of, table_of}
 use Rattle.trace_core.specs.declared.derivation.Step.{Step}
 use Rattle.search_core.proofs.Lists.{All-push, All-under}
 use Rattle.search_core.proofs.InOrder.{in_order-itself}

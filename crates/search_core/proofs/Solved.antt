@@ -1,9 +1,9 @@
 -- What a round did, as its caller sees it.
-use Rattle.std.proofs.Common.{◌≡◌, ◌∙◌, ℕ, ◌≤◌, List, [], ◌∷◌, length, ap, sym, subst, arith}
+use Rattle.std.proofs.Common.{◌≡◌, ◌∙◌, ℕ, ◌≤◌, List, length, ap, sym, subst, arith}
 use Rattle.std.specs.Prelude.{All, Contains}
 use Rattle.std.proofs.lemmas.List.Elements.{All-contains}
 use Rattle.sat_base.specs.Lit.{IsLit, IsLitSet, IsTautology, variable, greatest_of, greatest_of_all}
-use Rattle.sat_base.proofs.Members.{Contains-here, Contains-there, Contains-from_map}
+use Rattle.sat_base.proofs.Members.{Contains-from_map}
 use Rattle.std.specs.Prelude.{filter, Result, Ok, Err, IfOk}
 use Rattle.trace_core.specs.Known.{Known}
 use Rattle.clause_arena.specs.Arena.{ArenaClause}

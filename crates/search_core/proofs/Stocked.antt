@@ -8,7 +8,7 @@ use Rattle.sat_base.specs.Lit.{IsLit, IsTautology, is_ascending, opposite, great
 use Rattle.sat_base.specs.Truth.{Entails, clause_true}
 use Rattle.sat_base.specs.declared.origins.Ref.{Ref}
 use Rattle.sat_base.specs.declared.origins.Ref.TheVariants.{Input, Shared, Own}
-use Rattle.sat_base.proofs.Members.{Contains-here, Contains-map, Contains-from_map, Contains-filter, all_member, all_from_members}
+use Rattle.sat_base.proofs.Members.{Contains-here, Contains-map, Contains-from_map, all_member, all_from_members}
 use Rattle.trace_core.specs.Known.{Known, known, item_at, clause_of, tag_of}
 use Rattle.trace_core.specs.Law.{clauses_up_to}
 use Rattle.trace_core.specs.Trace.{IsOkStep, AreOkSteps, known_of}
@@ -143,7 +143,7 @@ step_within clauses packets steps bound step stock ok proper = elim ok.proved [
       let one_proper : IsTautology one.clause → ⊥ = λ both. hints_proper (map opposite step.clause) (map (λ hint. clause_of (table hint)) step.hints) (negation_consistent step.clause proper) derived.conflict lits among (subst IsTautology (sym lits_are ∙ is) both) in
       let low = named_has (IsWithinItsTag (inputs_of clauses)) clauses packets steps bound stock stock.within stock.steps_within hint one found one_proper in
       let tag_low : one.tag ≤ step.tag = subst (λ n. one.tag ≤ n) (sym ok.exact_tag) (at_most_greatest (map (λ hint. tag_of (table hint)) step.hints) one.tag
-          (subst (Contains (map (λ hint. tag_of (table hint)) step.hints)) tag_is (Contains-map (λ (hint : Ref). tag_of (table hint)) step.hints hint hinted))) in
+      (subst (Contains (map (λ hint. tag_of (table hint)) step.hints)) tag_is (Contains-map (λ (hint : Ref). tag_of (table hint)) step.hints hint hinted))) in
       let wider = greatest_grows (inputs_of clauses) (inputs_of clauses) one.tag step.tag (λ _ h. h) tag_low in
       let here = below_greatest one.clause lit (subst (λ (xs : List ℕ). Contains xs lit) (sym is ∙ lits_are) there) in
       omega (arith, low, wider, here)))

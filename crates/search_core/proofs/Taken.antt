@@ -1,16 +1,16 @@
 -- A search that takes in a clause of the shared database.
 use Rattle.std.proofs.Common.{◌≡◌, ◌≢◌, ◌∙◌, ℕ, zero, suc, ◌+◌, ◌-◌, ◌<◌, ◌≤◌, List, [], ◌∷◌, ◌++◌, length, map, filter, set, Option, None, Some, Bool, true, false, refl, ap, sym, subst, inl, inr, arith, get_or}
-use Rattle.std.specs.Prelude.{◌⊎◌, ◌==◌, All, Contains, IsTrue, cond, slice_get, option_map, option_and_then, unwrap_or, replicate}
+use Rattle.std.specs.Prelude.{◌⊎◌, ◌==◌, All, Contains, cond, slice_get, option_map, option_and_then, unwrap_or, replicate}
 use Rattle.std.proofs.lemmas.Bool.{cases_eq}
 use Rattle.std.proofs.lemmas.Bool.Decides.{nat_tests}
 use Rattle.std.proofs.lemmas.Option.{none-some, slice_get-get_or}
-use Rattle.std.proofs.lemmas.List.{map_push, append-nil, length-map}
+use Rattle.std.proofs.lemmas.List.{map_push, append-nil}
 use Rattle.std.proofs.lemmas.List.Elements.{filter-append, Contains-append_left, Contains-append_right}
 use Rattle.sat_base.specs.Lit.{IsLit, IsLitSet, variable, greatest_of, greatest_of_all}
 use Rattle.sat_base.specs.Truth.{Entails}
 use Rattle.sat_base.specs.declared.origins.Ref.{Ref}
 use Rattle.sat_base.specs.declared.origins.Ref.TheVariants.{Input, Shared, Own}
-use Rattle.sat_base.proofs.Members.{All-from_members, Contains-here, Contains-map, Contains-from_map}
+use Rattle.sat_base.proofs.Members.{All-from_members, Contains-here}
 use Rattle.trace_core.specs.Known.{Known, known, item_at}
 use Rattle.trace_core.specs.Law.{clauses_up_to}
 use Rattle.trace_core.specs.Trace.{AreOkSteps, known_of}
@@ -19,7 +19,7 @@ use Rattle.trace_core.proofs.Soundness.{ok_step_stays_ok}
 use Rattle.clause_arena.specs.Arena.{ArenaClause, lits_of_each}
 use Rattle.propagate.specs.Store.{StoreView, AreWithin, AreAllWithin}
 use Rattle.search_core.specs.declared.search.Search.{Search}
-use Rattle.search_core.specs.Solver.{Solver, inputs_of, held_of, clauses_of, named_by, shared_by, known_in, packet_at, last_step_of, IsStep, known_clause, is_input, IsWithinItsTag}
+use Rattle.search_core.specs.Solver.{inputs_of, held_of, clauses_of, named_by, shared_by, known_in, packet_at, last_step_of, IsStep, known_clause, is_input, IsWithinItsTag}
 use Rattle.search_core.specs.Stock.{IsStocked}
 use Rattle.search_core.specs.OnTrail.{IsOnTrail}
 use Rattle.search_core.specs.Units.{IsNamed}
@@ -255,7 +255,7 @@ pub last_within : (s : Search) (cube : List ℕ) (packet shown : List Step) → 
 last_within s cube packet shown kept same takable one is =
     let one_is = same_known (item_at (map known_of packet) (length packet)) takable.0 one takable.1.last (ap (λ (xs : List Step). item_at (map known_of xs) (length xs)) (sym same) ∙ is) in
     let wide = greatest_all_within (clauses_up_to (inputs_of s.store.clauses) takable.0.tag) (greatest_of_all (clauses_of (inputs_of s.store.clauses)))
-        (λ clause has. among_greatest (clauses_of (inputs_of s.store.clauses)) clause (among_inputs (inputs_of s.store.clauses) takable.0.tag clause has)) in
+    (λ clause has. among_greatest (clauses_of (inputs_of s.store.clauses)) clause (among_inputs (inputs_of s.store.clauses) takable.0.tag clause has)) in
     omega (arith, ap (λ (x : Known). greatest_of x.clause) one_is, takable.1.within, wide, kept.counted.greatest, kept.room.reserved, kept.room.store)
 
 pub takes : (s mid new : Search) (cube : List ℕ) (place : ℕ) (packet shown : List Step) → IsSearching s cube → s.trail.depth ≡ 0 → new ≡ record s { store = new.store; packets = new.packets } → new.store ≡ mid.store → HoldsLast s mid place shown → shown ≡ packet

@@ -1,5 +1,5 @@
 -- The greatest variable of the inputs up to a tag.
-use Rattle.std.proofs.Common.{◌≡◌, ℕ, ◌<◌, ◌≤◌, List, [], ◌∷◌, filter, true, ap, subst, inl, inr, arith}
+use Rattle.std.proofs.Common.{◌≡◌, ℕ, ◌≤◌, List, [], ◌∷◌, filter, true, ap, subst, inl, inr, arith}
 use Rattle.std.specs.Prelude.{Contains, IsTrue, nat_le}
 use Rattle.std.proofs.lemmas.Bool.Decides.{nat_tests}
 use Rattle.sat_base.specs.Lit.{variable, greatest_of, greatest_of_all}

@@ -4,7 +4,7 @@ use Rattle.sat_base.specs.declared.origins.Ref.{Ref}
 use Rattle.sat_base.specs.declared.origins.Ref.TheVariants.{Input, Shared, Own}
 use Rattle.sat_base.specs.Lit.{IsTautology, greatest_of, greatest_of_all}
 use Rattle.sat_base.specs.Truth.{Entails}
-use Rattle.trace_core.specs.Known.{Known, known, item_at}
+use Rattle.trace_core.specs.Known.{Known, item_at}
 use Rattle.trace_core.specs.Law.{clauses_up_to}
 use Rattle.trace_core.specs.Trace.{AreOkSteps, known_of}
 use Rattle.trace_core.specs.declared.derivation.Step.{Step}

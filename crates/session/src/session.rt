@@ -109,7 +109,12 @@ impl Session {
     pub fn knows(&self, place: u32) -> bool
         ensures { result ≡ is_some (packet_at self.now.solver.packets place) }
     {
-        place > 0 && self.search.packets.get(place as usize - 1).is_some_and(|packet| packet.is_some())
+        place > 0
+            && self
+                .search
+                .packets
+                .get(place as usize - 1)
+                .is_some_and(|packet| packet.is_some())
     }
 
     /// The own steps, in order. What every session keeps is told with them.

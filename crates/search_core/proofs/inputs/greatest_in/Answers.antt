@@ -1,4 +1,4 @@
-use Rattle.std.proofs.Common.{◌∙◌, refl, ap}
+use Rattle.std.proofs.Common.{◌∙◌, ap}
 use Rattle.sat_base.specs.Lit.{greatest_of}
 use Rattle.search_core.proofs.Loaded.{greatest_all_more, greatest_all_whole}
 use Rattle.search_core.proofs.inputs.greatest_in.Goals as goal

@@ -1,5 +1,4 @@
-use Rattle.std.proofs.Common.{◌∙◌, length, ap, sym, subst, arith}
-use Rattle.search_core.specs.Solver.{Solver}
+use Rattle.std.proofs.Common.{◌∙◌, length, ap}
 use Rattle.search_core.proofs.Loaded.{taken_back}
 use Rattle.search_core.proofs.inputs.load.Goals as goal
 

@@ -1,4 +1,4 @@
-use Rattle.std.proofs.Common.{◌≡◌, ◌∙◌, ◌-◌, ◌<◌, ◌≤◌, List, Some, ◌∷◌, [], ◌++◌, length, map, ap, sym, subst, arith}
+use Rattle.std.proofs.Common.{◌≡◌, ◌∙◌, ◌-◌, ◌<◌, ◌≤◌, List, Some, ◌∷◌, [], ◌++◌, length, map, ap, subst, arith}
 use Rattle.sat_base.specs.Lit.{variable}
 use Rattle.sat_base.specs.declared.origins.Ref.TheVariants.{Shared}
 use Rattle.sat_base.proofs.Members.{All-from_members}

@@ -1,4 +1,4 @@
-use Rattle.std.proofs.Common.{◌≡◌, ◌∙◌, length, ◌-◌, ◌++◌, List, ℕ, None, Some, set, map, take, refl, ap, sym, subst, arith}
+use Rattle.std.proofs.Common.{◌≡◌, ◌∙◌, length, ◌++◌, List, None, map, take, refl, ap, sym, subst, arith}
 use Rattle.std.specs.Prelude.{option_map, replicate}
 use Rattle.std.specs.Arc.{arc_value}
 use Rattle.std.proofs.Math.Seq.{take-append_seam}
