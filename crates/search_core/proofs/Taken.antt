@@ -24,7 +24,7 @@ use Rattle.search_core.specs.Stock.{IsStocked}
 use Rattle.search_core.specs.OnTrail.{IsOnTrail}
 use Rattle.search_core.specs.Units.{IsNamed}
 use Rattle.search_core.specs.Searching.{IsSearching, packets_of, solver_of, table_of}
-use Rattle.search_core.specs.Sharing.{IsTakable, HasPlaceMore, HasTaken, HoldsLast}
+use Rattle.search_core.specs.Sharing.{IsTakable, HasPlaceMore, HasTaken, IsHeld, HoldsLast}
 use Rattle.search_core.proofs.Lists.{All-push, All-under, item_at-map}
 use Rattle.search_core.proofs.InOrder.{in_order-itself}
 use Rattle.search_core.proofs.UpTo.{below_greatest, among_greatest, greatest_all_within, among_inputs}
@@ -290,3 +290,43 @@ search_unplaced s new cube kept parts store packets = subst (λ (x : Search). Is
   named = subst (λ ps. IsNamed (named_by (inputs_of s.store.clauses) ps s.steps.items) s.trail.entries s.units.items s.tags.items s.named) (sym packets) kept.named;
   all_named = kept.all_named;
 })
+
+-- A place is known whose packet's last clause is held.
+pub search_knows : (s new : Search) (cube : List ℕ) (place : ℕ) (packet : List Step) → IsSearching s cube → new ≡ record s { packets = new.packets } → HasPlaceMore (packets_of s) (packets_of new) place packet → packet_at (packets_of s) place ≡ None
+    → IsHeld (solver_of s) packet → IsSearching new cube
+search_knows s new cube place packet kept parts more free is_held = subst (λ (x : Search). IsSearching x cube) (sym parts) (record {
+  stock = record {
+    lits = kept.stock.lits;
+    named = All-under (λ clause. named_by inputs (packets_of s) s.steps.items clause.origin ≡ Some (known_clause clause)) (λ clause. named_by inputs (packets_of new) s.steps.items clause.origin ≡ Some (known_clause clause)) s.store.clauses
+        (λ clause is. grows clause.origin (known_clause clause) is) kept.stock.named;
+    entailed = kept.stock.entailed;
+    bounded = kept.stock.bounded;
+    within = kept.stock.within;
+    packets_held = λ other number k is. held other number k is (cases_eq other place);
+    ok = ok_over_more inputs (shared_by (packets_of s)) (shared_by (packets_of new)) (known_with_place inputs (packets_of s) (packets_of new) place packet more free) [] s.steps.items kept.stock.ok;
+    steps_entailed = kept.stock.steps_entailed;
+    steps_within = kept.stock.steps_within;
+    steps_bounded = kept.stock.steps_bounded;
+  };
+  room = record { over = kept.room.over; reserved = kept.room.reserved; store = kept.room.store; scratch = kept.room.scratch; units = kept.room.units; tags = kept.room.tags };
+  counted = record { greatest = kept.counted.greatest; inputs = kept.counted.inputs; learnt = kept.counted.learnt };
+  on = kept.on;
+  named = named_stays (table_of s) (named_by inputs (packets_of new) s.steps.items) s.trail.entries s.units.items s.tags.items s.named grows kept.named;
+  all_named = kept.all_named;
+})
+  where
+    inputs : List Known
+    inputs = inputs_of s.store.clauses
+
+    grows : (name : Ref) (one : Known) → named_by inputs (packets_of s) s.steps.items name ≡ Some one → named_by inputs (packets_of new) s.steps.items name ≡ Some one
+    grows = named_with_place inputs (packets_of s) (packets_of new) s.steps.items place packet more free
+
+    last_held : (number : ℕ) (k : Known) (b : Bool) → (number == length packet) ≡ b → cond b (item_at (map known_of packet) number) None ≡ Some k → Contains (held_of s.store.clauses) k
+    last_held number k true is found =
+        let at : number ≡ length packet = grind (arith, nat_tests, is) in
+        subst (Contains (held_of s.store.clauses)) (same_known (item_at (map known_of packet) number) is_held.one k (ap (item_at (map known_of packet)) at ∙ is_held.last) found) is_held.held
+    last_held number k false is found = absurd (none-some k found)
+
+    held : (other number : ℕ) (k : Known) → last_step_of (packet_at (packets_of new) other) number ≡ Some k → (other ≡ place) ⊎ (other ≢ place) → Contains (held_of s.store.clauses) k
+    held other number k is (inl here) = last_held number k (number == length packet) refl (subst (λ (found : Option (List Step)). last_step_of found number ≡ Some k) (ap (packet_at (packets_of new)) here ∙ more.here) is)
+    held other number k is (inr apart) = kept.stock.packets_held other number k (subst (λ (found : Option (List Step)). last_step_of found number ≡ Some k) (more.elsewhere other apart) is)

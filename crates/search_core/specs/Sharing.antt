@@ -1,5 +1,5 @@
 -- How a clause of the shared database comes to a solver.
-use Rattle.std.specs.Prelude.{◌≡◌, ◌≢◌, ℕ, ◌≤◌, List, ◌∷◌, [], ◌++◌, map, length, replicate, Option, None, Some}
+use Rattle.std.specs.Prelude.{◌≡◌, ◌≢◌, ℕ, ◌≤◌, List, ◌∷◌, [], ◌++◌, map, length, replicate, Contains, Option, None, Some}
 use Rattle.sat_base.specs.Lit.{IsLitSet, greatest_of, greatest_of_all}
 use Rattle.sat_base.specs.Truth.{Entails}
 use Rattle.sat_base.specs.declared.origins.Ref.TheVariants.{Shared}
@@ -30,6 +30,17 @@ pub record HasTaken (old new : Solver) (place : ℕ) (packet : List Step) (one :
   pub held : new.held ≡ old.held ++ one ∷ []
   pub steps : new.steps ≡ old.steps
   pub learnt : new.learnt ≡ old.learnt
+  pub packets : HasPlaceMore old.packets new.packets place packet
+
+-- the packet's last clause is held
+pub record IsHeld (solver : Solver) (packet : List Step) : Type 0 where
+  pub one : Known
+  pub last : item_at (map known_of packet) (length packet) ≡ Some one
+  pub held : Contains solver.held one
+
+-- The place is known, and nothing else changed.
+pub record Knows (old new : Solver) (place : ℕ) (packet : List Step) : Type 0 where
+  pub same : new ≡ record old { packets = new.packets }
   pub packets : HasPlaceMore old.packets new.packets place packet
 
 -- there may be more places, none of which is known

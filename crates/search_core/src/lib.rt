@@ -28,5 +28,5 @@ pub use inputs::{load, reserve};
 pub use laws::a_search_is_sound;
 pub use rounds::Round;
 pub use search::Search;
-pub use sharing::take_in;
+pub use sharing::{know, take_in};
 pub use solving::solve;

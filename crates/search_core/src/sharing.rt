@@ -7,7 +7,7 @@ ghost use Rattle.trace_core.specs.Known.{Known, item_at};
 ghost use Rattle.trace_core.specs.Trace.{known_of};
 ghost use Rattle.search_core.specs.Solver.{packet_at};
 ghost use Rattle.search_core.specs.Searching.{IsSearching, packets_of, solver_of};
-ghost use Rattle.search_core.specs.Sharing.{IsTakable, HasTaken, HasPlacesOnly, HoldsLast};
+ghost use Rattle.search_core.specs.Sharing.{IsTakable, HasTaken, IsHeld, Knows, HasPlacesOnly, HoldsLast};
 
 use crate::search::Search;
 use sat_base::{Cube, Ref};
@@ -36,6 +36,37 @@ pub fn take_in(
     let copy = packet.clone()?;
     let before = search.packets.len();
     match hold_last(search, place, packet) {
+        Ok(()) => {
+            mark_known(&mut search.packets, place, copy);
+            Ok(())
+        }
+        Err(error) => {
+            search.packets.truncate(before);
+            Err(error)
+        }
+    }
+}
+
+/// Knows the place from now on, whose packet's last clause is held already. After want of memory the solver is
+/// as before.
+pub fn know(
+    search: &mut Search,
+    cube: &Cube,
+    place: u32,
+    packet: &Arc<Packet>,
+) -> Result<(), AllocError>
+    requires kept { IsSearching search.old cube.now }
+    requires place { 1 ≤ place }
+    requires unknown { packet_at (packets_of search.old) place ≡ None }
+    requires held { IsHeld (solver_of search.old) (arc_value packet.now) }
+    ensures kept { IsSearching search.new cube.now }
+    ensures depth { search.new.trail.depth ≡ search.old.trail.depth }
+    ensures ok { OnOk result (Knows (solver_of search.old) (solver_of search.new) place (arc_value packet.now)) }
+    ensures err { OnErr result (solver_of search.new ≡ solver_of search.old) }
+{
+    let copy = packet.clone()?;
+    let before = search.packets.len();
+    match reach(&mut search.packets, place as usize) {
         Ok(()) => {
             mark_known(&mut search.packets, place, copy);
             Ok(())
