@@ -1,29 +1,29 @@
 -- What may be shared, learnt and answered on a board with the worked job.
-use Rattle.std.proofs.Common.{◌≡◌, ◌∙◌, ℕ, ◌+◌, ◌<◌, ◌≤◌, List, [], ◌∷◌, ◌++◌, Option, None, Some, Result, Ok, Err, length, refl, ap, sym, subst, arith, inl, inr, Bool, true, false}
-use Rattle.std.specs.Prelude.{◌⊎◌, IsTrue, OnOk, OnErr, All, AllPairs, Contains, filter, map, nat_le, IsSome, not, ◌==◌}
+use Rattle.std.proofs.Common.{◌≡◌, ◌∙◌, ℕ, ◌≤◌, List, [], ◌∷◌, ◌++◌, None, Result, Ok, Err, length, refl, ap, sym, subst, arith, inl, inr, true, false}
+use Rattle.std.specs.Prelude.{◌⊎◌, IsTrue, OnOk, OnErr, All, Contains, filter, nat_le, IsSome, not, ◌==◌}
 use Rattle.std.specs.List.{list_any}
 use Rattle.std.proofs.lemmas.List.Elements.{All-nil, All-cons}
 use Rattle.sat_base.specs.Lit.{opposite, IsTautology, greatest_of, greatest_of_all, variables}
 use Rattle.sat_base.specs.Truth.{Entails, IsModelOf}
 use Rattle.sat_base.specs.declared.origins.Ref.TheVariants.{Input}
-use Rattle.sat_base.proofs.Members.{Contains-here, Contains-there, Contains-cases, All-from_members}
+use Rattle.sat_base.proofs.Members.{Contains-here, Contains-there, Contains-cases}
 use Rattle.trace_core.specs.Known.{Known, known, item_at}
-use Rattle.trace_core.specs.Propagation.{IsFalsified, IsUnit, IsDerived, StandsInOneOf}
-use Rattle.trace_core.specs.Trace.{AreOkSteps, IsOkStep}
+use Rattle.trace_core.specs.Propagation.{IsFalsified, IsUnit, IsDerived}
+use Rattle.trace_core.specs.Trace.{IsOkStep}
 use Rattle.trace_core.specs.Law.{clauses_up_to}
 use Rattle.trace_core.proofs.Soundness.{step_is_sound}
 use Rattle.entry_core.specs.declared.answers.Answer.TheVariants as answer
 use Rattle.entry_core.specs.declared.entries.Entry.{Entry}
 use Rattle.entry_core.specs.declared.entries.Event.{Event}
 use Rattle.entry_core.specs.declared.entries.Event.TheVariants as event
-use Rattle.entry_core.specs.Journal.{segments, segment_of, tagged_from, inputs_of, clauses_of, cube_of, cube_in, jobs, shared}
-use Rattle.entry_core.specs.Attempts.{Attempt, begun_by, attempts, attempt, ended_by, ended, is_open}
+use Rattle.entry_core.specs.Journal.{segments, segment_of, tagged_from, inputs_of, clauses_of, cube_in, jobs, shared}
+use Rattle.entry_core.specs.Attempts.{Attempt, begun_by, attempts, ended_by}
 use Rattle.entry_core.specs.Right.{IsRightAnswer, IsSpentFor, IsSpent, Subsumes}
 use Rattle.entry_core.specs.Legal.{IsShareable}
 use Rattle.board_core.specs.State.{State, entered}
 use Rattle.board_core.specs.declared.task.Task.{Task}
 use Rattle.board_core.specs.declared.task.Task.TheVariants as task
-use Rattle.board_core.specs.Replies.{IsOwn, IsBegun, IsTask, job_at, job_in}
+use Rattle.board_core.specs.Replies.{IsJob, IsOwn, IsBegun, IsTask, job_at, job_in}
 use Rattle.board_core.proofs.Readings.{unread, read_on}
 use Rattle.board_bench.specs.Worked.{worked_job, worked_step}
 
@@ -172,3 +172,8 @@ pub spent_on : (board : State) (learnt : List (List ℕ)) → segments board.jou
 spent_on board learnt is at budget same =
     subst (λ xs. IsSpentFor board.journal (job_at board 1) board.rules.conflicts xs) (sym same)
     (subst (λ n. IsSpentFor board.journal (job_at board 1) n ((4 ∷ []) ∷ [])) (sym budget) (spent board.journal (job_at board 1) is at))
+
+pub is_job : (board : State) → segments board.journal ≡ worked_job ∷ [] → IsJob board 1
+is_job board is =
+    let one : jobs board.journal ≡ 1 = ap length is in
+    record { from_one = omega arith; added = omega (arith, one) }

@@ -119,6 +119,19 @@ fn share(rt: &impl Abort, board: &mut Board, packet: Arc<Packet>) -> Result<u32,
 }
 
 #[test]
+fn a_job_has_the_segment_that_was_added(rt: HostRuntime) -> Result<(), Fail> {
+    let alloc = rt.alloc();
+    let board = added(alloc, &rt)?;
+    let segment = board.segment(1)?;
+    let clauses = segment.clauses.items();
+    assert_eq!(rt; clauses.len(), 2);
+    assert_eq!(rt; clauses[0].lits(), [lit(&rt, 1), lit(&rt, 2)].as_slice());
+    assert_eq!(rt; clauses[1].lits(), [lit(&rt, -1)].as_slice());
+    assert_eq!(rt; segment.cube.lits().len(), 0);
+    Ok(())
+}
+
+#[test]
 fn a_shared_packet_is_fetched(rt: HostRuntime) -> Result<(), Fail> {
     let alloc = rt.alloc();
     let mut board = added(alloc, &rt)?;

@@ -1,5 +1,4 @@
 use Rattle.std.proofs.Common.{refl, subst, sym}
-use Rattle.std.specs.Arc.{arc_value}
 use Rattle.entry_core.specs.Legal.{IsShareable}
 use Rattle.entry_core.specs.declared.entries.Event.TheVariants as event
 use Rattle.board_bench.proofs.Ready.{shareable, kept_either}
