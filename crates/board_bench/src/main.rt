@@ -6,7 +6,11 @@
 
 mod calls;
 #[cfg(test)]
+mod limits;
+#[cfg(test)]
 mod tests;
+#[cfg(test)]
+mod worked;
 
 use anyhow::{Result, ensure};
 use std::env;

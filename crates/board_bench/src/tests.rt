@@ -1,10 +1,10 @@
-//! Whole runs on a board: an answer, a late attempt, and as many jobs as there may be.
+//! Whole runs on a board: an answer, and as many jobs as there may be.
 
 ghost use Rattle.std.specs.Prelude.{IfOk};
 ghost use Rattle.board_core.specs.Replies.{IsTask, IsOwn};
 
 use crate::calls;
-use board_core::{AddFault, Board, Late, Task};
+use board_core::{AddFault, Board, Task};
 use entry_core::{Answer, Clauses, Outcome, Rules, Segment, Verdict};
 use sat_base::{Assign, Cube};
 use std::alloc::{AllocError, Global};
@@ -63,36 +63,6 @@ fn an_answer_settles_its_job(rt: HostRuntime) -> Result<(), Fail> {
     assert_eq!(rt; board.decide(2, attempt, answer), Ok(()));
     assert_eq!(rt; board.outcome(1), Ok(Outcome::Model));
     assert!(rt; matches!(board.verdict(1), Ok(Verdict::Answered(_))));
-    Ok(())
-}
-
-#[test]
-fn an_attempt_at_a_settled_job_is_late_and_dropped(rt: HostRuntime) -> Result<(), Fail> {
-    let alloc = rt.alloc();
-    let rules = Rules {
-        clients: 1,
-        workers: 1,
-        attempts: 1,
-        conflicts: 1,
-        first: false,
-    };
-    let mut board = Board::new(alloc, rules)?;
-    let Ok(_) = board.add(1, empty(alloc)?) else {
-        panic!(rt; "not added");
-    };
-    let Task::Job { attempt, .. } = board.take(2)? else {
-        panic!(rt; "no job to take");
-    };
-    let Ok(()) = board.cancel(1, 1) else {
-        panic!(rt; "not cancelled");
-    };
-    let Err(late) = board.starve(2, attempt) else {
-        panic!(rt; "not late");
-    };
-    assert_eq!(rt; late, Late(Outcome::Cancelled(0)));
-    assert_eq!(rt; board.journal().len(), 3);
-    board.drop_attempt(2, attempt);
-    assert_eq!(rt; board.journal().len(), 4);
     Ok(())
 }
 
