@@ -16,3 +16,4 @@ mod words;
 
 pub use alone::{WORDS_REFUSED, run_alone};
 pub use endings::NO_MEMORY;
+pub use words::Command;

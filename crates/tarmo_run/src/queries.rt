@@ -147,7 +147,7 @@ impl Queries {
             (λ _. O.faults out.new ≡ O.faults out.old)
             (λ halt. IsHalt halt (O.faults out.old) (O.faults out.new)) }
     {
-        let block = self.solve(command, cube)?;
+        let block = self.next_block(command, cube)?;
         match write_all(out, &block) {
             Ok(()) => Ok(()),
             Err(Failed) => Err(Halt::Unwritten),
@@ -155,7 +155,7 @@ impl Queries {
     }
 
     // The block of the next job, which has this cube.
-    fn solve(&mut self, command: Command, cube: &Cube) -> Result<Vec<u8>, AllocError>
+    fn next_block(&mut self, command: Command, cube: &Cube) -> Result<Vec<u8>, AllocError>
         requires ready { IsReady self.old }
         ensures block { IfOk result (λ text. IsBlockOf command.trace (jobs_read self.old + 1) (clauses_read self.old) cube.now text.items) }
         ensures known { OnOk result ((clauses_read self.new ≡ clauses_read self.old) × (jobs_read self.new ≡ jobs_read self.old + 1)) }

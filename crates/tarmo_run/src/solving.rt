@@ -45,7 +45,8 @@ pub(crate) fn solved_block(
     )
 }
 
-// What the session found, with the trace of a refuted part where traces are asked for.
+// What the session found, with the trace of a refuted part where traces are asked for. The trace takes the time of the
+// steps and hints that are printed, times the logarithm of their number, and none for the other steps of the session.
 fn answer_of(
     alloc: Global,
     session: &Session,

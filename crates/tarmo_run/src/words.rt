@@ -5,9 +5,9 @@ ghost use Rattle.tarmo_run.specs.Words.{accepted, plain, with_option};
 
 /// What the words of a run ask for.
 #[derive(Clone, Copy, Debug, PartialEq, Eq)]
-pub(crate) struct Command {
+pub struct Command {
     /// Whether each refuted part has its trace.
-    pub(crate) trace: bool,
+    pub trace: bool,
 }
 
 impl Command {
