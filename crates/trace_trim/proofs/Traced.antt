@@ -9,14 +9,15 @@ use Rattle.sat_base.specs.declared.origins.Ref.TheVariants.{Input, Shared, Own}
 use Rattle.trace_core.specs.Known.{Known, known, item_at}
 use Rattle.trace_core.specs.Trace.{IsOkStep, known_of}
 use Rattle.trace_core.specs.declared.derivation.Step.{Step}
-use Rattle.trace_trim.specs.Names.{step_named, cited, AreCiting, IsBefore, CiteEarlierSteps, IsCitedAlong}
+use Rattle.trace_trim.specs.Names.{step_named, cited, AreCiting, IsBefore, Cites, CiteEarlierSteps}
+use Rattle.trace_trim.specs.Reached.{IsCitedAlong}
 use Rattle.trace_trim.specs.Trimmed.{AreNamesReached, IsRenumberedHint, IsRenumbered, IsTrimmed, IsTraceWhereOk}
 use Rattle.trace_trim.proofs.Order.{before_trans, not_before_itself}
 use Rattle.trace_trim.proofs.Found.{either_side}
 use Rattle.trace_trim.proofs.Zips.{zip_back, zip_item, zip_ends, item_at-front, item_at-map, slice_get-place, get_or-slice_get}
 use Rattle.trace_trim.proofs.OkSteps.{ok_from_each, ok_named, ok_renamed, known_by}
 
-reached_there : (packets : List (List Step)) (own : List Step) (last : ℕ) (name : Ref) (users : List Ref) → IsSome (item_at own last) → CiteEarlierSteps packets own → IsCitedAlong packets own last name users → IsSome (step_named packets own name)
+reached_there : (packets : List (List Step)) (own : List Step) (last : ℕ) (name : Ref) (users : List Ref) → IsSome (item_at own last) → CiteEarlierSteps packets own → IsCitedAlong (Cites packets own) (Own last) name users → IsSome (step_named packets own name)
 reached_there packets own last name [] last_there earlier is = subst (λ n. IsSome (step_named packets own n)) (sym is) last_there
 reached_there packets own last name (user ∷ users) last_there earlier along = (earlier user name along.0).0
 
