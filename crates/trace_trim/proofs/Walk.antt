@@ -195,3 +195,15 @@ falls cites before IsThere rank_of start met pending rest more one rises walk pa
 pub none_left : {X : Type 0} (keys : List X) (found : Option X) → (IsSome found ↔ (0 < length keys)) → found ≡ None → keys ≡ []
 none_left [] found some none = refl
 none_left (key ∷ keys) found some none = let there : IsSome found = some.1 (omega arith) in absurd (cc)
+
+along_there : {X : Type 0} (cites before : X → X → Type 0) (IsThere : X → Type 0) (start one : X) (users : List X) → LookBack cites before IsThere → IsThere start → IsCitedAlong cites start one users → IsThere one
+along_there cites before IsThere start one [] look begin is = subst IsThere (sym is) begin
+along_there cites before IsThere start one (user ∷ users) look begin along = look.there user one along.0
+
+-- all that is reached is there
+pub reached_there : {X : Type 0} (cites before : X → X → Type 0) (IsThere : X → Type 0) (start : X) (reached : List X) (one : X) → LookBack cites before IsThere → IsThere start → AreReached cites before start reached → Contains reached one → IsThere one
+reached_there cites before IsThere start reached one look begin are has = let users = (are.exactly one).0 has in along_there cites before IsThere start one users.0 look begin users.1
+
+-- what one that is reached cites is reached
+pub cited_there : {X : Type 0} (cites before : X → X → Type 0) (start : X) (reached : List X) (user other : X) → AreReached cites before start reached → Contains reached user → cites user other → Contains reached other
+cited_there cites before start reached user other are has citing = let users = (are.exactly user).0 has in (are.exactly other).1 (user ∷ users.0, (citing, users.1))
