@@ -1,6 +1,6 @@
 -- The walk over the numbers of own steps without a name.
 use Rattle.std.proofs.Common.{◌≡◌, ◌∙◌, ℕ, zero, suc, ◌-◌, ◌<◌, ◌≤◌, List, [], ◌∷◌, length, sym, ap, subst, refl, arith}
-use Rattle.std.specs.Prelude.{Contains, Option, Some, None, IsSome, Bool, true, false, cond, ◌==◌, is_none, slice_get}
+use Rattle.std.specs.Prelude.{Contains, Option, Some, None, IsSome, false, cond, ◌==◌, is_none, slice_get}
 use Rattle.std.proofs.lemmas.Bool.Decides.{nat_tests}
 use Rattle.sat_base.specs.declared.origins.Ref.{Ref}
 use Rattle.sat_base.specs.declared.origins.Ref.TheVariants.{Input, Shared, Own}

@@ -1,5 +1,5 @@
 -- A packet is ok wherever the own steps are.
-use Rattle.std.proofs.Common.{◌≡◌, ◌∙◌, ℕ, zero, suc, ◌+◌, ◌-◌, ◌<◌, ◌≤◌, List, [], ◌∷◌, ◌++◌, map, take, length, length-append, get_or, refl, subst, sym, ap, arith}
+use Rattle.std.proofs.Common.{◌≡◌, ◌∙◌, ℕ, ◌+◌, ◌-◌, ◌<◌, ◌≤◌, List, [], ◌∷◌, ◌++◌, map, take, length, length-append, get_or, refl, subst, sym, ap, arith}
 use Rattle.std.specs.Prelude.{Contains, Option, Some, None, IsSome, MatchOption, false, cond, ◌==◌, slice_get, option_map}
 use Rattle.std.specs.List.{AllZip}
 use Rattle.std.proofs.lemmas.Bool.Decides.{nat_tests}
@@ -7,7 +7,7 @@ use Rattle.sat_base.proofs.Members.{Contains-map}
 use Rattle.sat_base.specs.declared.origins.Ref.{Ref}
 use Rattle.sat_base.specs.declared.origins.Ref.TheVariants.{Input, Shared, Own}
 use Rattle.trace_core.specs.Known.{Known, known, item_at, tag_of}
-use Rattle.trace_core.specs.Trace.{IsOkStep, AreOkSteps, known_of, greatest}
+use Rattle.trace_core.specs.Trace.{IsOkStep, AreOkSteps, known_of}
 use Rattle.trace_core.specs.declared.derivation.Step.{Step}
 use Rattle.trace_core.proofs.Soundness.{item_at-contains, at_most_greatest}
 use Rattle.trace_trim.specs.Packed.{name_of, RestsOn, CiteEarlierOwn, IsPackedHint, IsPackedStep, IsPack, AreNamesRight, IsOkWhereOwnAreOk, ends_in, HasGreatestTagLast, AreOfOwn}

@@ -1,6 +1,6 @@
 -- A trimmed derivation is a trace wherever the given steps are ok.
 use Rattle.std.proofs.Common.{◌≡◌, ◌∙◌, ℕ, ◌-◌, ◌<◌, ◌≤◌, List, [], ◌∷◌, ◌++◌, map, take, length, get_or, refl, subst, sym, ap, inl, inr, arith}
-use Rattle.std.specs.Prelude.{Contains, ◌⊎◌, ◌↔◌, Some, IsSome, AllPairs, slice_get, option_map}
+use Rattle.std.specs.Prelude.{Contains, ◌⊎◌, ◌↔◌, Some, AllPairs, slice_get, option_map}
 use Rattle.std.specs.List.{AllZip}
 use Rattle.sat_base.proofs.Members.{Contains-here, Contains-there}
 use Rattle.sat_base.specs.Lit.{opposite}
@@ -9,8 +9,8 @@ use Rattle.sat_base.specs.declared.origins.Ref.TheVariants.{Input, Shared, Own}
 use Rattle.trace_core.specs.Known.{Known, known, item_at}
 use Rattle.trace_core.specs.Trace.{IsOkStep, known_of}
 use Rattle.trace_core.specs.declared.derivation.Step.{Step}
-use Rattle.trace_trim.specs.Names.{step_named, cited, AreCiting, IsBefore, Cites, CiteEarlierSteps}
-use Rattle.trace_trim.specs.Trimmed.{AreNamesReached, IsRenumberedHint, IsRenumbered, IsTrimmed, IsTraceWhereOk}
+use Rattle.trace_trim.specs.Names.{step_named, cited, IsBefore, CiteEarlierSteps}
+use Rattle.trace_trim.specs.Trimmed.{IsRenumberedHint, IsRenumbered, IsTrimmed, IsTraceWhereOk}
 use Rattle.trace_trim.proofs.Order.{before_trans, not_before_itself}
 use Rattle.trace_trim.proofs.Found.{either_side}
 use Rattle.trace_trim.proofs.Zips.{zip_back, zip_item, zip_ends, item_at-front, item_at-map, slice_get-place, get_or-slice_get}

@@ -1,10 +1,8 @@
-use Rattle.std.proofs.Common.{◌≡◌, ◌∙◌, ◌<◌, ◌++◌, ◌∷◌, [], map, take, subst, sym}
+use Rattle.std.proofs.Common.{◌∙◌, ◌<◌, ◌++◌, ◌∷◌, [], take, subst, sym}
 use Rattle.std.specs.Prelude.{slice_index_or, Contains}
 use Rattle.std.specs.List.{AllZip}
 use Rattle.std.proofs.lemmas.List.{take_more, take_all}
 use Rattle.std.proofs.lemmas.List.Elements.{Contains-get_or}
-use Rattle.trace_core.specs.Known.{item_at}
-use Rattle.trace_core.specs.Trace.{known_of}
 use Rattle.trace_trim.specs.Packed.{RestsOn, AreNumbersPacked, IsPackedHint, IsPackedStep, IsPack}
 use Rattle.trace_trim.specs.Trimmed.{IsStepWithHints}
 use Rattle.trace_trim.proofs.OwnWalk.{IsThere, looks_back}
