@@ -22,7 +22,7 @@ either_side (suc k) (suc i) = deeper (either_side k i)
     deeper (inl h) = inl (omega arith)
     deeper (inr h) = inr (omega arith)
 
-slice_get-is : {X : Type 0} (xs : List X) (i : ℕ) (x : X) → i < length xs → get_or xs i x ≡ x → slice_get xs i ≡ Some x
+pub slice_get-is : {X : Type 0} (xs : List X) (i : ℕ) (x : X) → i < length xs → get_or xs i x ≡ x → slice_get xs i ≡ Some x
 slice_get-is [] i x lt is = absurd (omega arith)
 slice_get-is (y ∷ xs) zero x lt is = ap Some is
 slice_get-is (y ∷ xs) (suc i) x lt is = slice_get-is xs i x (omega arith) is

@@ -1,10 +1,10 @@
--- Which keys a set has after an insertion.
-use Rattle.std.proofs.Common.{◌≡◌, ◌∙◌, ℕ, ◌+◌, ◌<◌, List, [], ◌∷◌, ◌++◌, take, length, get_or, refl, subst, sym, ap, inl, inr, arith}
-use Rattle.std.specs.Prelude.{Contains, ◌⊎◌, ◌↔◌, Some, None}
+-- Which keys a set has after an insertion, and after the hints that lead to keys.
+use Rattle.std.proofs.Common.{◌≡◌, ◌∙◌, ℕ, ◌+◌, ◌<◌, List, [], ◌∷◌, ◌++◌, take, length, get_or, refl, subst, sym, ap, inl, inr}
+use Rattle.std.specs.Prelude.{Contains, ◌⊎◌, ◌↔◌, Option, Some, None}
 use Rattle.std.proofs.lemmas.List.{take_more}
 use Rattle.std.proofs.lemmas.List.Elements.{Contains-append_left, Contains-push, Contains-push_cases}
 use Rattle.sat_base.specs.declared.origins.Ref.{Ref}
-use Rattle.trace_trim.specs.Names.{cited, AreCiting}
+use Rattle.trace_trim.specs.Reached.{LeadTo}
 use Rattle.std.specs.declared.cmp.Ordering.{Ordering}
 use Rattle.std.specs.declared.cmp.Ordering.TheVariants.{Less, Equal, Greater}
 use Rattle.std.specs.Ordering.{match_ordering}
@@ -62,71 +62,67 @@ Contains-kept cmp (x ∷ keys) k q has = by_order (λ h. Contains-kept cmp keys 
 one_more : (hints : List Ref) (i : ℕ) (d hint : Ref) → i < length hints → hint ≡ get_or hints i d → take (i + 1) hints ≡ take i hints ++ hint ∷ []
 one_more hints i d hint lt is = take_more hints i d lt ∙ ap (λ h. take i hints ++ h ∷ []) (sym is)
 
--- One more hint cites what the hints before it cite, and what it cites itself.
-pub cites_more : (user : Ref) (hints : List Ref) (i : ℕ) (d hint q : Ref) → i < length hints → hint ≡ get_or hints i d → AreCiting user (take (i + 1) hints) q → AreCiting user (take i hints) q ⊎ (cited user hint ≡ Some q)
-cites_more user hints i d hint q lt is (h, has, names) = either (Contains-push_cases (take i hints) hint h (subst (λ xs. Contains xs h) (one_more hints i d hint lt is) has))
+-- One more hint leads to what the hints before it lead to, and to what it leads to itself.
+pub cites_more : {K : Type 0} (next : Ref → Option K) (hints : List Ref) (i : ℕ) (d hint : Ref) (q : K) → i < length hints → hint ≡ get_or hints i d → LeadTo next (take (i + 1) hints) q → LeadTo next (take i hints) q ⊎ (next hint ≡ Some q)
+cites_more next hints i d hint q lt is (h, has, names) = either (Contains-push_cases (take i hints) hint h (subst (λ xs. Contains xs h) (one_more hints i d hint lt is) has))
   where
-    either : Contains (take i hints) h ⊎ (hint ≡ h) → AreCiting user (take i hints) q ⊎ (cited user hint ≡ Some q)
+    either : Contains (take i hints) h ⊎ (hint ≡ h) → LeadTo next (take i hints) q ⊎ (next hint ≡ Some q)
     either (inl before) = inl (h, before, names)
-    either (inr same) = inr (ap (cited user) same ∙ names)
+    either (inr same) = inr (ap next same ∙ names)
 
-pub cites_before : (user : Ref) (hints : List Ref) (i : ℕ) (d hint q : Ref) → i < length hints → hint ≡ get_or hints i d → AreCiting user (take i hints) q ⊎ (cited user hint ≡ Some q) → AreCiting user (take (i + 1) hints) q
-cites_before user hints i d hint q lt is (inl (h, has, names)) = (h, subst (λ xs. Contains xs h) (sym (one_more hints i d hint lt is)) (Contains-append_left (take i hints) (hint ∷ []) h has), names)
-cites_before user hints i d hint q lt is (inr names) = (hint, subst (λ xs. Contains xs hint) (sym (one_more hints i d hint lt is)) (Contains-push (take i hints) hint), names)
+pub cites_before : {K : Type 0} (next : Ref → Option K) (hints : List Ref) (i : ℕ) (d hint : Ref) (q : K) → i < length hints → hint ≡ get_or hints i d → LeadTo next (take i hints) q ⊎ (next hint ≡ Some q) → LeadTo next (take (i + 1) hints) q
+cites_before next hints i d hint q lt is (inl (h, has, names)) = (h, subst (λ xs. Contains xs h) (sym (one_more hints i d hint lt is)) (Contains-append_left (take i hints) (hint ∷ []) h has), names)
+cites_before next hints i d hint q lt is (inr names) = (hint, subst (λ xs. Contains xs hint) (sym (one_more hints i d hint lt is)) (Contains-push (take i hints) hint), names)
 
--- no hints cite nothing
-pub cites_none : (user q : Ref) → AreCiting user [] q → ⊥
-cites_none user q (h, (k, lt, is), names) = omega arith
-
--- the keys after a hint that cites a step
-pub keys_more : (cmp : Ref → Ref → Ordering) → ((a b : Ref) → cmp a b ≡ Equal → a ≡ b) → (old keys more : List Ref) (user : Ref) (hints : List Ref) (i : ℕ) (d hint name : Ref)
-    → i < length hints → hint ≡ get_or hints i d → cited user hint ≡ Some name → more ≡ insert_key cmp keys name
-    → ((q : Ref) → Contains keys q ↔ (Contains old q ⊎ AreCiting user (take i hints) q))
-    → (q : Ref) → Contains more q ↔ (Contains old q ⊎ AreCiting user (take (i + 1) hints) q)
-keys_more cmp same old keys more user hints i d hint name lt is names now before q = (forth, back)
+-- the keys after a hint that leads to one
+pub keys_more : {K : Type 0} (cmp : K → K → Ordering) → ((a b : K) → cmp a b ≡ Equal → a ≡ b) → (next : Ref → Option K) (old keys more : List K) (hints : List Ref) (i : ℕ) (d hint : Ref) (name : K)
+    → i < length hints → hint ≡ get_or hints i d → next hint ≡ Some name → more ≡ insert_key cmp keys name
+    → ((q : K) → Contains keys q ↔ (Contains old q ⊎ LeadTo next (take i hints) q))
+    → (q : K) → Contains more q ↔ (Contains old q ⊎ LeadTo next (take (i + 1) hints) q)
+keys_more {K} cmp same next old keys more hints i d hint name lt is names now before q = (forth, back)
   where
-    old_or : Contains old q ⊎ AreCiting user (take i hints) q → Contains old q ⊎ AreCiting user (take (i + 1) hints) q
+    old_or : Contains old q ⊎ LeadTo next (take i hints) q → Contains old q ⊎ LeadTo next (take (i + 1) hints) q
     old_or (inl has) = inl has
-    old_or (inr cites) = inr (cites_before user hints i d hint q lt is (inl cites))
+    old_or (inr cites) = inr (cites_before next hints i d hint q lt is (inl cites))
 
-    key_or : Contains keys q ⊎ (name ≡ q) → Contains old q ⊎ AreCiting user (take (i + 1) hints) q
+    key_or : Contains keys q ⊎ (name ≡ q) → Contains old q ⊎ LeadTo next (take (i + 1) hints) q
     key_or (inl has) = old_or ((before q).0 has)
-    key_or (inr one) = inr (cites_before user hints i d hint q lt is (inr (names ∙ ap Some one)))
+    key_or (inr one) = inr (cites_before next hints i d hint q lt is (inr (names ∙ ap Some one)))
 
-    forth : Contains more q → Contains old q ⊎ AreCiting user (take (i + 1) hints) q
+    forth : Contains more q → Contains old q ⊎ LeadTo next (take (i + 1) hints) q
     forth has = key_or (Contains-from_insert cmp keys name q (subst (λ ks. Contains ks q) now has))
 
     kept : Contains keys q → Contains more q
     kept has = subst (λ ks. Contains ks q) (sym now) (Contains-kept cmp keys name q has)
 
-    cited_now : AreCiting user (take i hints) q ⊎ (cited user hint ≡ Some q) → Contains more q
+    cited_now : LeadTo next (take i hints) q ⊎ (next hint ≡ Some q) → Contains more q
     cited_now (inl cites) = kept ((before q).1 (inr cites))
     cited_now (inr here) =
         let one : name ≡ q = cc in
         subst (λ ks. Contains ks q) (sym now) (subst (Contains (insert_key cmp keys name)) one (Contains-inserted cmp same keys name))
 
-    back : Contains old q ⊎ AreCiting user (take (i + 1) hints) q → Contains more q
+    back : Contains old q ⊎ LeadTo next (take (i + 1) hints) q → Contains more q
     back (inl has) = kept ((before q).1 (inl has))
-    back (inr cites) = cited_now (cites_more user hints i d hint q lt is cites)
+    back (inr cites) = cited_now (cites_more next hints i d hint q lt is cites)
 
--- the keys after a hint that names an input
-pub keys_same : (old keys more : List Ref) (user : Ref) (hints : List Ref) (i : ℕ) (d hint : Ref)
-    → i < length hints → hint ≡ get_or hints i d → cited user hint ≡ None → more ≡ keys
-    → ((q : Ref) → Contains keys q ↔ (Contains old q ⊎ AreCiting user (take i hints) q))
-    → (q : Ref) → Contains more q ↔ (Contains old q ⊎ AreCiting user (take (i + 1) hints) q)
-keys_same old keys more user hints i d hint lt is none now before q = (forth, back)
+-- the keys after a hint that leads to none
+pub keys_same : {K : Type 0} (next : Ref → Option K) (old keys more : List K) (hints : List Ref) (i : ℕ) (d hint : Ref)
+    → i < length hints → hint ≡ get_or hints i d → next hint ≡ None → more ≡ keys
+    → ((q : K) → Contains keys q ↔ (Contains old q ⊎ LeadTo next (take i hints) q))
+    → (q : K) → Contains more q ↔ (Contains old q ⊎ LeadTo next (take (i + 1) hints) q)
+keys_same {K} next old keys more hints i d hint lt is none now before q = (forth, back)
   where
-    old_or : Contains old q ⊎ AreCiting user (take i hints) q → Contains old q ⊎ AreCiting user (take (i + 1) hints) q
+    old_or : Contains old q ⊎ LeadTo next (take i hints) q → Contains old q ⊎ LeadTo next (take (i + 1) hints) q
     old_or (inl has) = inl has
-    old_or (inr cites) = inr (cites_before user hints i d hint q lt is (inl cites))
+    old_or (inr cites) = inr (cites_before next hints i d hint q lt is (inl cites))
 
-    forth : Contains more q → Contains old q ⊎ AreCiting user (take (i + 1) hints) q
+    forth : Contains more q → Contains old q ⊎ LeadTo next (take (i + 1) hints) q
     forth has = old_or ((before q).0 (subst (λ ks. Contains ks q) now has))
 
-    cited_now : AreCiting user (take i hints) q ⊎ (cited user hint ≡ Some q) → Contains more q
+    cited_now : LeadTo next (take i hints) q ⊎ (next hint ≡ Some q) → Contains more q
     cited_now (inl cites) = subst (λ ks. Contains ks q) (sym now) ((before q).1 (inr cites))
     cited_now (inr here) = let no : None ≡ Some q = sym none ∙ here in cc
 
-    back : Contains old q ⊎ AreCiting user (take (i + 1) hints) q → Contains more q
+    back : Contains old q ⊎ LeadTo next (take (i + 1) hints) q → Contains more q
     back (inl has) = subst (λ ks. Contains ks q) (sym now) ((before q).1 (inl has))
-    back (inr cites) = cited_now (cites_more user hints i d hint q lt is cites)
+    back (inr cites) = cited_now (cites_more next hints i d hint q lt is cites)

@@ -1,7 +1,11 @@
 pub mod Keys
 pub mod Order
 pub mod Walk
+pub mod NameWalk
+pub mod OwnWalk
 pub mod Found
+pub mod Numbers
 pub mod Zips
 pub mod OkSteps
 pub mod Traced
+pub mod Packed

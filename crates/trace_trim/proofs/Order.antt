@@ -98,26 +98,26 @@ rank-rises packets own (Own m) (Input n) before a_there b_there = absurd before
 rank-rises packets own (Own m) (Shared q t) before a_there b_there = absurd before
 rank-rises packets own (Own m) (Own n) before a_there b_there = omega arith
 
--- one above the greatest rank, 0 without names
-pub peak : List (List Step) → List Ref → ℕ
-peak packets [] = 0
-peak packets (name ∷ names) = max (suc (rank packets name)) (peak packets names)
+-- one above the greatest rank, 0 where there is none
+pub peak : {X : Type 0} → (X → ℕ) → List X → ℕ
+peak rank_of [] = 0
+peak rank_of (one ∷ others) = max (suc (rank_of one)) (peak rank_of others)
 
-pub peak-below : (packets : List (List Step)) (names : List Ref) (bound : ℕ) → ((name : Ref) → Contains names name → rank packets name < bound) → peak packets names ≤ bound
+pub peak-below : {X : Type 0} (rank_of : X → ℕ) (ones : List X) (bound : ℕ) → ((one : X) → Contains ones one → rank_of one < bound) → peak rank_of ones ≤ bound
 unfolding peak
-peak-below packets [] bound each = omega arith
-peak-below packets (name ∷ names) bound each =
-    let first = each name (Contains-here name names) in
-    let rest = peak-below packets names bound (λ other has. each other (Contains-there name other names has)) in
+peak-below rank_of [] bound each = omega arith
+peak-below rank_of (one ∷ others) bound each =
+    let first = each one (Contains-here one others) in
+    let rest = peak-below rank_of others bound (λ other has. each other (Contains-there one other others has)) in
     omega arith
 
-pub peak-above : (packets : List (List Step)) (names : List Ref) (name : Ref) → Contains names name → rank packets name < peak packets names
+pub peak-above : {X : Type 0} (rank_of : X → ℕ) (ones : List X) (one : X) → Contains ones one → rank_of one < peak rank_of ones
 unfolding peak
-peak-above packets [] name (k, lt, is) = absurd (omega arith)
-peak-above packets (first ∷ names) name has = by_case (λ h. peak-above packets names name h) (Contains-cases first name names has)
+peak-above rank_of [] one (k, lt, is) = absurd (omega arith)
+peak-above rank_of (first ∷ others) one has = by_case (λ h. peak-above rank_of others one h) (Contains-cases first one others has)
   where
-    by_case : (Contains names name → rank packets name < peak packets names) → (first ≡ name) ⊎ Contains names name → rank packets name < max (suc (rank packets first)) (peak packets names)
-    by_case recur (inl same) = let h = ap (rank packets) same in omega arith
+    by_case : (Contains others one → rank_of one < peak rank_of others) → (first ≡ one) ⊎ Contains others one → rank_of one < max (suc (rank_of first)) (peak rank_of others)
+    by_case recur (inl same) = let h = ap rank_of same in omega arith
     by_case recur (inr later) = let h = recur later in omega arith
 
 -- ---- the order of names is the one that `Ord` gives them

@@ -1,6 +1,6 @@
 -- A trimmed derivation is a trace wherever the given steps are ok.
 use Rattle.std.proofs.Common.{◌≡◌, ◌∙◌, ℕ, ◌-◌, ◌<◌, ◌≤◌, List, [], ◌∷◌, ◌++◌, map, take, length, get_or, refl, subst, sym, ap, inl, inr, arith}
-use Rattle.std.specs.Prelude.{Contains, ◌⊎◌, ◌↔◌, Some, IsSome, AllPairs, slice_get, option_map}
+use Rattle.std.specs.Prelude.{Contains, ◌⊎◌, ◌↔◌, Some, AllPairs, slice_get, option_map}
 use Rattle.std.specs.List.{AllZip}
 use Rattle.sat_base.proofs.Members.{Contains-here, Contains-there}
 use Rattle.sat_base.specs.Lit.{opposite}
@@ -9,47 +9,36 @@ use Rattle.sat_base.specs.declared.origins.Ref.TheVariants.{Input, Shared, Own}
 use Rattle.trace_core.specs.Known.{Known, known, item_at}
 use Rattle.trace_core.specs.Trace.{IsOkStep, known_of}
 use Rattle.trace_core.specs.declared.derivation.Step.{Step}
-use Rattle.trace_trim.specs.Names.{step_named, cited, AreCiting, IsBefore, CiteEarlierSteps, IsCitedAlong}
-use Rattle.trace_trim.specs.Trimmed.{AreNamesReached, IsRenumberedHint, IsRenumbered, IsTrimmed, IsTraceWhereOk}
+use Rattle.trace_trim.specs.Names.{step_named, cited, IsBefore, CiteEarlierSteps}
+use Rattle.trace_trim.specs.Trimmed.{IsRenumberedHint, IsRenumbered, IsTrimmed, IsTraceWhereOk}
 use Rattle.trace_trim.proofs.Order.{before_trans, not_before_itself}
 use Rattle.trace_trim.proofs.Found.{either_side}
 use Rattle.trace_trim.proofs.Zips.{zip_back, zip_item, zip_ends, item_at-front, item_at-map, slice_get-place, get_or-slice_get}
 use Rattle.trace_trim.proofs.OkSteps.{ok_from_each, ok_named, ok_renamed, known_by}
 
-reached_there : (packets : List (List Step)) (own : List Step) (last : ℕ) (name : Ref) (users : List Ref) → IsSome (item_at own last) → CiteEarlierSteps packets own → IsCitedAlong packets own last name users → IsSome (step_named packets own name)
-reached_there packets own last name [] last_there earlier is = subst (λ n. IsSome (step_named packets own n)) (sym is) last_there
-reached_there packets own last name (user ∷ users) last_there earlier along = (earlier user name along.0).0
-
--- each of the names names a step
-pub name_there : (packets : List (List Step)) (own : List Step) (last : ℕ) (names : List Ref) (name : Ref) → IsSome (item_at own last) → CiteEarlierSteps packets own → AreNamesReached packets own last names → Contains names name → IsSome (step_named packets own name)
-name_there packets own last names name last_there earlier reached has = let users = (reached.exactly name).0 has in reached_there packets own last name users.0 last_there earlier users.1
-
--- what a step of the names cites is among the names
-pub cited_there : (packets : List (List Step)) (own : List Step) (last : ℕ) (names : List Ref) (user other : Ref) (step : Step) → AreNamesReached packets own last names → Contains names user → step_named packets own user ≡ Some step → AreCiting user step.hints other → Contains names other
-cited_there packets own last names user other step reached has is citing = let users = (reached.exactly user).0 has in (reached.exactly other).1 (user ∷ users.0, ((step, is, citing), users.1))
-
--- a name that comes before the one at an index has a place up to it
-place_before : (names : List Ref) (i place : ℕ) (user other : Ref) → AllPairs IsBefore names → slice_get names i ≡ Some user → item_at names place ≡ Some other → IsBefore other user → place ≤ i
-place_before names i place user other ascending at_i at_place before = by_side (either_side i place)
+-- what comes before the one at an index has a place up to it
+pub place_before : {X : Type 0} (before : X → X → Type 0) → ((a b c : X) → before a b → before b c → before a c) → ((a : X) → before a a → ⊥) → (ones : List X) (i place : ℕ) (user other : X)
+    → AllPairs before ones → slice_get ones i ≡ Some user → item_at ones place ≡ Some other → before other user → place ≤ i
+place_before {X} before composes irreflexive ones i place user other ascending at_i at_place earlier = by_side (either_side i place)
   where
-    here : (0 < place) × (slice_get names (place - 1) ≡ Some other)
-    here = slice_get-place names place other at_place
+    here : (0 < place) × (slice_get ones (place - 1) ≡ Some other)
+    here = slice_get-place ones place other at_place
 
-    user_at : (i < length names) × (get_or names i user ≡ user)
-    user_at = get_or-slice_get names i user user at_i
+    user_at : (i < length ones) × (get_or ones i user ≡ user)
+    user_at = get_or-slice_get ones i user user at_i
 
-    other_at : (place - 1 < length names) × (get_or names (place - 1) user ≡ other)
-    other_at = get_or-slice_get names (place - 1) user other here.1
+    other_at : (place - 1 < length ones) × (get_or ones (place - 1) user ≡ other)
+    other_at = get_or-slice_get ones (place - 1) user other here.1
 
     not_later : (i < place - 1) ⊎ (place - 1 ≤ i) → i < place → place ≤ i
     not_later (inl above) lt =
-        let after : IsBefore user other = subst (λ u. IsBefore u other) user_at.1 (subst (IsBefore (get_or names i user)) other_at.1 (ascending i (place - 1) user above other_at.0)) in
-        absurd (not_before_itself user (before_trans user other user after before))
+        let after : before user other = subst (λ u. before u other) user_at.1 (subst (before (get_or ones i user)) other_at.1 (ascending i (place - 1) user above other_at.0)) in
+        absurd (irreflexive user (composes user other user after earlier))
     not_later (inr below) lt =
         let positive = here.0 in
         let same : place - 1 ≡ i = omega arith in
-        let one : user ≡ other = sym user_at.1 ∙ ap (λ n. get_or names n user) (sym same) ∙ other_at.1 in
-        absurd (not_before_itself user (subst (λ o. IsBefore o user) (sym one) before))
+        let one : user ≡ other = sym user_at.1 ∙ ap (λ n. get_or ones n user) (sym same) ∙ other_at.1 in
+        absurd (irreflexive user (subst (λ o. before o user) (sym one) earlier))
 
     by_side : (i < place) ⊎ (place ≤ i) → place ≤ i
     by_side (inl lt) = not_later (either_side i (place - 1)) lt
@@ -76,7 +65,7 @@ same_known inputs packets own names trimmed i user hint renumbered zip low is = 
     by_hint (Shared p s) (Own n) low is = step_is (Shared p n) (λ place at. low (Shared p n) place refl at) is
     by_hint (Own k) (Own n) low is = step_is (Own n) (λ place at. low (Own n) place refl at) is
 
-zip_hints : (R S : Ref → Ref → Type 0) (hints others : List Ref) → ((hint other : Ref) → Contains hints hint → R hint other → S hint other) → AllZip R hints others → AllZip S hints others
+pub zip_hints : (R S : Ref → Ref → Type 0) (hints others : List Ref) → ((hint other : Ref) → Contains hints hint → R hint other → S hint other) → AllZip R hints others → AllZip S hints others
 zip_hints R S [] [] each zip = zip
 zip_hints R S [] (other ∷ others) each zip = zip
 zip_hints R S (hint ∷ hints) [] each zip = zip
@@ -102,7 +91,7 @@ traced packets own last trimmed earlier trim inputs part step ok_packets ok_own 
     each : (i : ℕ) (new : Step) → slice_get trimmed i ≡ Some new → IsOkStep (known inputs [] ([] ++ map known_of (take i trimmed))) new
     each i new at = ok_renamed (known_by inputs packets own name) (known inputs [] (map known_of (take i trimmed))) old new (ok_named inputs packets own name old ok_packets ok_own found.2.1) found.2.2.clause found.2.2.tag
         (zip_hints (IsRenumberedHint trim.names name) (λ hint other. known_by inputs packets own name hint ≡ known inputs [] (map known_of (take i trimmed)) other) old.hints new.hints
-        (λ hint other has is. same_known inputs packets own trim.names trimmed i name hint other trim.renumbered (λ cited_name place cites at_place. place_before trim.names i place name cited_name trim.reached.ascending found.1 at_place (earlier name cited_name (old, found.2.1, (hint, has, cites))).1) is)
+        (λ hint other has is. same_known inputs packets own trim.names trimmed i name hint other trim.renumbered (λ cited_name place cites at_place. place_before IsBefore before_trans not_before_itself trim.names i place name cited_name trim.reached.ascending found.1 at_place (earlier name cited_name (old, found.2.1, (hint, has, cites))).1) is)
         found.2.2.hints)
       where
         found : (name : Ref) × (slice_get trim.names i ≡ Some name) × IsRenumbered packets own trim.names name new

@@ -1,147 +1,152 @@
--- The walk from the last step down to all that it rests on.
+-- The walk from the start down to all that is reached from it.
 use Rattle.std.proofs.Common.{◌≡◌, ◌∙◌, ℕ, ◌-◌, ◌<◌, List, [], ◌∷◌, ◌++◌, length, reverse, get_or, refl, subst, sym, ap, inl, inr, arith}
 use Rattle.std.proofs.lemmas.List.{get_or-reverse, length-reverse, reverse-append}
 use Rattle.std.specs.Prelude.{Contains, ◌⊎◌, ◌↔◌, Option, Some, None, IsSome, AllPairs}
 use Rattle.std.proofs.lemmas.List.Elements.{Contains-append_left, Contains-push, Contains-push_cases, Contains-get_or}
 use Rattle.std.proofs.lemmas.List.Quantifiers.{all_pairs_push}
 use Rattle.sat_base.proofs.Members.{Contains-here, Contains-cases}
-use Rattle.sat_base.specs.declared.origins.Ref.{Ref}
-use Rattle.sat_base.specs.declared.origins.Ref.TheVariants.{Own}
-use Rattle.trace_core.specs.declared.derivation.Step.{Step}
-use Rattle.trace_trim.specs.Names.{step_named, AreCiting, Cites, IsBefore, CiteEarlierSteps, IsReached, IsCitedAlong}
-use Rattle.trace_trim.specs.Trimmed.{AreNamesReached}
-use Rattle.trace_trim.proofs.Order.{before_trans, rank, rank-rises, peak, peak-below, peak-above}
+use Rattle.trace_trim.specs.Reached.{IsReached, IsCitedAlong, AreReached}
+use Rattle.trace_trim.proofs.Order.{peak, peak-below, peak-above}
 
--- The names so far, from the last step downwards, and those that are cited by them and come later.
-pub record IsWalk (packets : List (List Step)) (own : List Step) (last : ℕ) (names pending : List Ref) : Type 0 where
-  pub reached : (name : Ref) → Contains names name ⊎ Contains pending name → IsReached packets own last name
-  pub closed : (user name : Ref) → Contains names user → Cites packets own user name → Contains names name ⊎ Contains pending name
-  pub descending : AllPairs (λ later earlier. IsBefore earlier later) names
-  pub below : (name user : Ref) → Contains pending name → Contains names user → IsBefore name user
-  pub there : (name : Ref) → Contains pending name → IsSome (step_named packets own name)
-  pub back : List Ref
-  pub begins : names ≡ Own last ∷ back
+-- Citations go to what is there and comes earlier, in an order that composes.
+pub record LookBack {X : Type 0} (cites before : X → X → Type 0) (IsThere : X → Type 0) : Type 0 where
+  pub composes : (a b c : X) → before a b → before b c → before a c
+  pub there : (user other : X) → cites user other → IsThere other
+  pub earlier : (user other : X) → cites user other → before other user
+
+-- Those met so far, from the start downwards, and those that are cited by them and come later.
+pub record IsWalk {X : Type 0} (cites before : X → X → Type 0) (IsThere : X → Type 0) (start : X) (met pending : List X) : Type 0 where
+  pub reached : (one : X) → Contains met one ⊎ Contains pending one → IsReached cites start one
+  pub closed : (user one : X) → Contains met user → cites user one → Contains met one ⊎ Contains pending one
+  pub descending : AllPairs (λ later earlier. before earlier later) met
+  pub below : (one user : X) → Contains pending one → Contains met user → before one user
+  pub there : (one : X) → Contains pending one → IsThere one
+  pub back : List X
+  pub begins : met ≡ start ∷ back
 
 nothing_in : {X : Type 0} (x : X) → Contains [] x → ⊥
 nothing_in x (k, lt, is) = omega arith
 
--- the names and what is pending after one more name, whose citations become pending
-pub advanced : (packets : List (List Step)) (own : List Step) (last : ℕ) (names pending rest more : List Ref) (name : Ref) (step : Step)
-    → CiteEarlierSteps packets own → step_named packets own name ≡ Some step → IsWalk packets own last names pending → pending ≡ rest ++ name ∷ []
-    → ((other : Ref) → Contains rest other → IsBefore other name)
-    → ((other : Ref) → Contains more other ↔ (Contains rest other ⊎ AreCiting name step.hints other))
-    → IsWalk packets own last (names ++ name ∷ []) more
-advanced packets own last names pending rest more name step earlier is walk parts under now = record {
+-- keys that grow by what one cites, told by what there is of that one
+pub cited_now : {X Y : Type 0} (P : Y → X → Type 0) (found : Option Y) (y : Y) (old more : List X) → found ≡ Some y
+    → ((other : X) → Contains more other ↔ (Contains old other ⊎ P y other)) → (other : X) → Contains more other ↔ (Contains old other ⊎ ((z : Y) × (found ≡ Some z) × P z other))
+cited_now {X} {Y} P found y old more is now other = (λ has. widened ((now other).0 has), λ has. (now other).1 (narrowed has))
+  where
+    widened : Contains old other ⊎ P y other → Contains old other ⊎ ((z : Y) × (found ≡ Some z) × P z other)
+    widened (inl has) = inl has
+    widened (inr cites) = inr (y, is, cites)
+
+    narrowed : Contains old other ⊎ ((z : Y) × (found ≡ Some z) × P z other) → Contains old other ⊎ P y other
+    narrowed (inl has) = inl has
+    narrowed (inr (z, there, cites)) = let same : z ≡ y = cc in inr (subst (λ w. P w other) same cites)
+
+-- those met and those pending after one more, whose citations become pending
+pub advanced : {X : Type 0} (cites before : X → X → Type 0) (IsThere : X → Type 0) (start : X) (met pending rest more : List X) (one : X)
+    → LookBack cites before IsThere → IsWalk cites before IsThere start met pending → pending ≡ rest ++ one ∷ [] → ((other : X) → Contains rest other → before other one)
+    → ((other : X) → Contains more other ↔ (Contains rest other ⊎ cites one other)) → IsWalk cites before IsThere start (met ++ one ∷ []) more
+advanced {X} cites before IsThere start met pending rest more one look walk parts under now = record {
   reached = reached;
   closed = closed;
-  descending = all_pairs_push (λ later early. IsBefore early later) names name walk.descending (λ k d lt. walk.below name (get_or names k d) name_pending (Contains-get_or names k d lt));
+  descending = all_pairs_push (λ later early. before early later) met one walk.descending (λ k d lt. walk.below one (get_or met k d) one_pending (Contains-get_or met k d lt));
   below = below;
   there = λ other has. there other ((now other).0 has);
-  back = walk.back ++ name ∷ [];
-  begins = ap (λ xs. xs ++ name ∷ []) walk.begins;
+  back = walk.back ++ one ∷ [];
+  begins = ap (λ xs. xs ++ one ∷ []) walk.begins;
 }
   where
-    name_pending : Contains pending name
-    name_pending = subst (λ xs. Contains xs name) (sym parts) (Contains-push rest name)
+    one_pending : Contains pending one
+    one_pending = subst (λ xs. Contains xs one) (sym parts) (Contains-push rest one)
 
-    rest_pending : (other : Ref) → Contains rest other → Contains pending other
-    rest_pending other has = subst (λ xs. Contains xs other) (sym parts) (Contains-append_left rest (name ∷ []) other has)
+    rest_pending : (other : X) → Contains rest other → Contains pending other
+    rest_pending other has = subst (λ xs. Contains xs other) (sym parts) (Contains-append_left rest (one ∷ []) other has)
 
-    reached_cited : (other : Ref) → AreCiting name step.hints other → IsReached packets own last other
-    reached_cited other citing = let users = walk.reached name (inr name_pending) in (name ∷ users.0, ((step, is, citing), users.1))
+    reached_cited : (other : X) → cites one other → IsReached cites start other
+    reached_cited other citing = let users = walk.reached one (inr one_pending) in (one ∷ users.0, (citing, users.1))
 
-    reached_more : (other : Ref) → Contains rest other ⊎ AreCiting name step.hints other → IsReached packets own last other
+    reached_more : (other : X) → Contains rest other ⊎ cites one other → IsReached cites start other
     reached_more other (inl has) = walk.reached other (inr (rest_pending other has))
     reached_more other (inr citing) = reached_cited other citing
 
-    reached_old : (other : Ref) → Contains names other ⊎ (name ≡ other) → IsReached packets own last other
+    reached_old : (other : X) → Contains met other ⊎ (one ≡ other) → IsReached cites start other
     reached_old other (inl has) = walk.reached other (inl has)
-    reached_old other (inr same) = subst (IsReached packets own last) same (walk.reached name (inr name_pending))
+    reached_old other (inr same) = subst (IsReached cites start) same (walk.reached one (inr one_pending))
 
-    reached : (other : Ref) → Contains (names ++ name ∷ []) other ⊎ Contains more other → IsReached packets own last other
-    reached other (inl has) = reached_old other (Contains-push_cases names name other has)
+    reached : (other : X) → Contains (met ++ one ∷ []) other ⊎ Contains more other → IsReached cites start other
+    reached other (inl has) = reached_old other (Contains-push_cases met one other has)
     reached other (inr has) = reached_more other ((now other).0 has)
 
-    still : (other : Ref) → Contains rest other ⊎ (name ≡ other) → Contains (names ++ name ∷ []) other ⊎ Contains more other
+    still : (other : X) → Contains rest other ⊎ (one ≡ other) → Contains (met ++ one ∷ []) other ⊎ Contains more other
     still other (inl has) = inr ((now other).1 (inl has))
-    still other (inr same) = inl (subst (Contains (names ++ name ∷ [])) same (Contains-push names name))
+    still other (inr same) = inl (subst (Contains (met ++ one ∷ [])) same (Contains-push met one))
 
-    moved : (other : Ref) → Contains names other ⊎ Contains pending other → Contains (names ++ name ∷ []) other ⊎ Contains more other
-    moved other (inl has) = inl (Contains-append_left names (name ∷ []) other has)
-    moved other (inr has) = still other (Contains-push_cases rest name other (subst (λ xs. Contains xs other) parts has))
+    moved : (other : X) → Contains met other ⊎ Contains pending other → Contains (met ++ one ∷ []) other ⊎ Contains more other
+    moved other (inl has) = inl (Contains-append_left met (one ∷ []) other has)
+    moved other (inr has) = still other (Contains-push_cases rest one other (subst (λ xs. Contains xs other) parts has))
 
-    closed_user : (user other : Ref) → Contains names user ⊎ (name ≡ user) → Cites packets own user other → Contains (names ++ name ∷ []) other ⊎ Contains more other
-    closed_user user other (inl has) cites = moved other (walk.closed user other has cites)
-    closed_user user other (inr same) cites =
-        let here : Cites packets own name other = subst (λ z. Cites packets own z other) (sym same) cites in
-        let one : here.0 ≡ step = let e = here.1 in cc in
-        inr ((now other).1 (inr (subst (λ (z : Step). AreCiting name z.hints other) one here.2)))
+    closed_user : (user other : X) → Contains met user ⊎ (one ≡ user) → cites user other → Contains (met ++ one ∷ []) other ⊎ Contains more other
+    closed_user user other (inl has) citing = moved other (walk.closed user other has citing)
+    closed_user user other (inr same) citing = inr ((now other).1 (inr (subst (λ z. cites z other) (sym same) citing)))
 
-    closed : (user other : Ref) → Contains (names ++ name ∷ []) user → Cites packets own user other → Contains (names ++ name ∷ []) other ⊎ Contains more other
-    closed user other has cites = closed_user user other (Contains-push_cases names name user has) cites
+    closed : (user other : X) → Contains (met ++ one ∷ []) user → cites user other → Contains (met ++ one ∷ []) other ⊎ Contains more other
+    closed user other has citing = closed_user user other (Contains-push_cases met one user has) citing
 
-    before_name : (other : Ref) → Contains rest other ⊎ AreCiting name step.hints other → IsBefore other name
-    before_name other (inl has) = under other has
-    before_name other (inr citing) = (earlier name other (step, is, citing)).1
+    before_one : (other : X) → Contains rest other ⊎ cites one other → before other one
+    before_one other (inl has) = under other has
+    before_one other (inr citing) = look.earlier one other citing
 
-    below_user : (other user : Ref) → IsBefore other name → Contains names user ⊎ (name ≡ user) → IsBefore other user
-    below_user other user before (inl has) = before_trans other name user before (walk.below name user name_pending has)
-    below_user other user before (inr same) = subst (IsBefore other) same before
+    below_user : (other user : X) → before other one → Contains met user ⊎ (one ≡ user) → before other user
+    below_user other user early (inl has) = look.composes other one user early (walk.below one user one_pending has)
+    below_user other user early (inr same) = subst (before other) same early
 
-    below : (other user : Ref) → Contains more other → Contains (names ++ name ∷ []) user → IsBefore other user
-    below other user has used = below_user other user (before_name other ((now other).0 has)) (Contains-push_cases names name user used)
+    below : (other user : X) → Contains more other → Contains (met ++ one ∷ []) user → before other user
+    below other user has used = below_user other user (before_one other ((now other).0 has)) (Contains-push_cases met one user used)
 
-    there : (other : Ref) → Contains rest other ⊎ AreCiting name step.hints other → IsSome (step_named packets own other)
+    there : (other : X) → Contains rest other ⊎ cites one other → IsThere other
     there other (inl has) = walk.there other (rest_pending other has)
-    there other (inr citing) = (earlier name other (step, is, citing)).0
+    there other (inr citing) = look.there one other citing
 
 -- the walk before its first step down
-pub begun : (packets : List (List Step)) (own : List Step) (last : ℕ) (names pending : List Ref) (step : Step)
-    → CiteEarlierSteps packets own → step_named packets own (Own last) ≡ Some step → names ≡ Own last ∷ []
-    → ((other : Ref) → Contains pending other ↔ (Contains [] other ⊎ AreCiting (Own last) step.hints other))
-    → IsWalk packets own last names pending
-begun packets own last names pending step earlier is one now = record {
+pub begun : {X : Type 0} (cites before : X → X → Type 0) (IsThere : X → Type 0) (start : X) (met pending : List X)
+    → LookBack cites before IsThere → met ≡ start ∷ [] → ((other : X) → Contains pending other ↔ (Contains [] other ⊎ cites start other)) → IsWalk cites before IsThere start met pending
+begun {X} cites before IsThere start met pending look single now = record {
   reached = reached;
   closed = closed;
-  descending = subst (AllPairs (λ later early. IsBefore early later)) (sym one) (λ i j d lt within. absurd (omega arith));
-  below = λ other user has used. subst (IsBefore other) (only user used) (earlier (Own last) other (step, is, cited other has)).1;
-  there = λ other has. (earlier (Own last) other (step, is, cited other has)).0;
+  descending = subst (AllPairs (λ later early. before early later)) (sym single) (λ i j d lt within. absurd (omega arith));
+  below = λ other user has used. subst (before other) (only user used) (look.earlier start other (cited other has));
+  there = λ other has. look.there start other (cited other has);
   back = [];
-  begins = one;
+  begins = single;
 }
   where
-    only_here : (user : Ref) → (Own last ≡ user) ⊎ Contains [] user → Own last ≡ user
+    only_here : (user : X) → (start ≡ user) ⊎ Contains [] user → start ≡ user
     only_here user (inl same) = same
     only_here user (inr none) = absurd (nothing_in user none)
 
-    only : (user : Ref) → Contains names user → Own last ≡ user
-    only user has = only_here user (Contains-cases (Own last) user [] (subst (λ xs. Contains xs user) one has))
+    only : (user : X) → Contains met user → start ≡ user
+    only user has = only_here user (Contains-cases start user [] (subst (λ xs. Contains xs user) single has))
 
-    citing : (other : Ref) → Contains [] other ⊎ AreCiting (Own last) step.hints other → AreCiting (Own last) step.hints other
+    citing : (other : X) → Contains [] other ⊎ cites start other → cites start other
     citing other (inl none) = absurd (nothing_in other none)
     citing other (inr h) = h
 
-    cited : (other : Ref) → Contains pending other → AreCiting (Own last) step.hints other
+    cited : (other : X) → Contains pending other → cites start other
     cited other has = citing other ((now other).0 has)
 
-    reached : (other : Ref) → Contains names other ⊎ Contains pending other → IsReached packets own last other
+    reached : (other : X) → Contains met other ⊎ Contains pending other → IsReached cites start other
     reached other (inl has) = ([], sym (only other has))
-    reached other (inr has) = (Own last ∷ [], ((step, is, cited other has), refl))
+    reached other (inr has) = (start ∷ [], (cited other has, refl))
 
-    closed : (user other : Ref) → Contains names user → Cites packets own user other → Contains names other ⊎ Contains pending other
-    closed user other used cites =
-        let here : Cites packets own (Own last) other = subst (λ z. Cites packets own z other) (sym (only user used)) cites in
-        let same : here.0 ≡ step = let e = here.1 in cc in
-        inr ((now other).1 (inr (subst (λ (z : Step). AreCiting (Own last) z.hints other) same here.2)))
+    closed : (user other : X) → Contains met user → cites user other → Contains met other ⊎ Contains pending other
+    closed user other used h = inr ((now other).1 (inr (subst (λ z. cites z other) (sym (only user used)) h)))
 
--- where nothing is pending, each step that is reached has its name
-all_there : (packets : List (List Step)) (own : List Step) (last : ℕ) (names : List Ref) → IsWalk packets own last names [] → (name : Ref) (users : List Ref) → IsCitedAlong packets own last name users → Contains names name
-all_there packets own last names walk name [] is = subst (λ xs. Contains xs name) (sym walk.begins) (subst (Contains (Own last ∷ walk.back)) (sym is) (Contains-here (Own last) walk.back))
-all_there packets own last names walk name (user ∷ users) (cites, along) = found (walk.closed user name (all_there packets own last names walk user users along) cites)
+-- where nothing is pending, each that is reached was met
+all_there : {X : Type 0} (cites before : X → X → Type 0) (IsThere : X → Type 0) (start : X) (met : List X) → IsWalk cites before IsThere start met [] → (one : X) (users : List X) → IsCitedAlong cites start one users → Contains met one
+all_there cites before IsThere start met walk one [] is = subst (λ xs. Contains xs one) (sym walk.begins) (subst (Contains (start ∷ walk.back)) (sym is) (Contains-here start walk.back))
+all_there {X} cites before IsThere start met walk one (user ∷ users) (citing, along) = found (walk.closed user one (all_there cites before IsThere start met walk user users along) citing)
   where
-    found : Contains names name ⊎ Contains [] name → Contains names name
+    found : Contains met one ⊎ Contains [] one → Contains met one
     found (inl has) = has
-    found (inr none) = absurd (nothing_in name none)
+    found (inr none) = absurd (nothing_in one none)
 
 pub Contains-reverse : {X : Type 0} (xs : List X) (x : X) → Contains xs x → Contains (reverse xs) x
 Contains-reverse xs x (k, lt, is) =
@@ -156,36 +161,49 @@ Contains-from_reverse xs x (k, lt, is) =
     let within : k < length xs = omega (arith, length-reverse xs) in
     (length xs - 1 - k, omega arith, sym (get_or-reverse xs k x within) ∙ is)
 
--- the walk is over: its names, turned round
-pub over : (packets : List (List Step)) (own : List Step) (last : ℕ) (names pending turned : List Ref) → IsWalk packets own last names pending → pending ≡ [] → turned ≡ reverse names → AreNamesReached packets own last turned
-over packets own last names pending turned walk done is = subst (AreNamesReached packets own last) (sym is) (record {
-  exactly = λ name. (λ has. walk.reached name (inl (Contains-from_reverse names name has)), λ users. Contains-reverse names name (all_there packets own last names empty name users.0 users.1));
+-- the walk is over: those met, turned round
+pub over : {X : Type 0} (cites before : X → X → Type 0) (IsThere : X → Type 0) (start : X) (met pending turned : List X) → IsWalk cites before IsThere start met pending → pending ≡ [] → turned ≡ reverse met → AreReached cites before start turned
+over {X} cites before IsThere start met pending turned walk done is = subst (AreReached cites before start) (sym is) (record {
+  exactly = λ one. (λ has. walk.reached one (inl (Contains-from_reverse met one has)), λ users. Contains-reverse met one (all_there cites before IsThere start met empty one users.0 users.1));
   ascending = ascending;
   front = reverse walk.back;
-  ends = ap reverse walk.begins ∙ reverse-append (Own last ∷ []) walk.back;
+  ends = ap reverse walk.begins ∙ reverse-append (start ∷ []) walk.back;
 })
   where
-    empty : IsWalk packets own last names []
-    empty = subst (IsWalk packets own last names) done walk
+    empty : IsWalk cites before IsThere start met []
+    empty = subst (IsWalk cites before IsThere start met) done walk
 
-    ascending : AllPairs IsBefore (reverse names)
+    ascending : AllPairs before (reverse met)
     ascending i j d lt within =
-        let j_in : j < length names = omega (arith, length-reverse names) in
-        let i_in : i < length names = omega arith in
-        subst (λ a. IsBefore a (get_or (reverse names) j d)) (sym (get_or-reverse names i d i_in))
-        (subst (IsBefore (get_or names (length names - 1 - i) d)) (sym (get_or-reverse names j d j_in))
-        (walk.descending (length names - 1 - j) (length names - 1 - i) d (omega arith) (omega arith)))
+        let j_in : j < length met = omega (arith, length-reverse met) in
+        let i_in : i < length met = omega arith in
+        subst (λ a. before a (get_or (reverse met) j d)) (sym (get_or-reverse met i d i_in))
+        (subst (before (get_or met (length met - 1 - i) d)) (sym (get_or-reverse met j d j_in))
+        (walk.descending (length met - 1 - j) (length met - 1 - i) d (omega arith) (omega arith)))
 
 -- the greatest rank that is pending falls
-pub falls : (packets : List (List Step)) (own : List Step) (last : ℕ) (names pending rest more : List Ref) (name : Ref)
-    → IsWalk packets own last names pending → pending ≡ rest ++ name ∷ [] → IsWalk packets own last (names ++ name ∷ []) more → peak packets more < peak packets pending
-falls packets own last names pending rest more name walk parts next =
-    let name_pending : Contains pending name = subst (λ xs. Contains xs name) (sym parts) (Contains-push rest name) in
-    let top = peak-above packets pending name name_pending in
-    let under = peak-below packets more (rank packets name) (λ other has. rank-rises packets own other name (next.below other name has (Contains-push names name)) (next.there other has) (walk.there name name_pending)) in
+pub falls : {X : Type 0} (cites before : X → X → Type 0) (IsThere : X → Type 0) (rank_of : X → ℕ) (start : X) (met pending rest more : List X) (one : X)
+    → ((a b : X) → before a b → IsThere a → IsThere b → rank_of a < rank_of b)
+    → IsWalk cites before IsThere start met pending → pending ≡ rest ++ one ∷ [] → IsWalk cites before IsThere start (met ++ one ∷ []) more → peak rank_of more < peak rank_of pending
+falls cites before IsThere rank_of start met pending rest more one rises walk parts next =
+    let one_pending : Contains pending one = subst (λ xs. Contains xs one) (sym parts) (Contains-push rest one) in
+    let top = peak-above rank_of pending one one_pending in
+    let under = peak-below rank_of more (rank_of one) (λ other has. rises other one (next.below other one has (Contains-push met one)) (next.there other has) (walk.there one one_pending)) in
     omega arith
 
 -- a set that gives no greatest key is empty
-pub none_left : (keys : List Ref) (found : Option Ref) → (IsSome found ↔ (0 < length keys)) → found ≡ None → keys ≡ []
+pub none_left : {X : Type 0} (keys : List X) (found : Option X) → (IsSome found ↔ (0 < length keys)) → found ≡ None → keys ≡ []
 none_left [] found some none = refl
 none_left (key ∷ keys) found some none = let there : IsSome found = some.1 (omega arith) in absurd (cc)
+
+along_there : {X : Type 0} (cites before : X → X → Type 0) (IsThere : X → Type 0) (start one : X) (users : List X) → LookBack cites before IsThere → IsThere start → IsCitedAlong cites start one users → IsThere one
+along_there cites before IsThere start one [] look begin is = subst IsThere (sym is) begin
+along_there cites before IsThere start one (user ∷ users) look begin along = look.there user one along.0
+
+-- all that is reached is there
+pub reached_there : {X : Type 0} (cites before : X → X → Type 0) (IsThere : X → Type 0) (start : X) (reached : List X) (one : X) → LookBack cites before IsThere → IsThere start → AreReached cites before start reached → Contains reached one → IsThere one
+reached_there cites before IsThere start reached one look begin are has = let users = (are.exactly one).0 has in along_there cites before IsThere start one users.0 look begin users.1
+
+-- what one that is reached cites is reached
+pub cited_there : {X : Type 0} (cites before : X → X → Type 0) (start : X) (reached : List X) (user other : X) → AreReached cites before start reached → Contains reached user → cites user other → Contains reached other
+cited_there cites before start reached user other are has citing = let users = (are.exactly user).0 has in (are.exactly other).1 (user ∷ users.0, (citing, users.1))

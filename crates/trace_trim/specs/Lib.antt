@@ -1,2 +1,4 @@
 pub mod Names
+pub mod Packed
+pub mod Reached
 pub mod Trimmed

@@ -1,9 +1,10 @@
 -- Steps by name, and which steps a step rests on.
-use Rattle.std.specs.Prelude.{◌≡◌, ℕ, ◌<◌, ◌⊎◌, Option, None, Some, IsSome, List, [], ◌∷◌, Contains, option_and_then}
+use Rattle.std.specs.Prelude.{◌≡◌, ◌<◌, ◌⊎◌, Option, None, Some, IsSome, List, option_and_then}
 use Rattle.sat_base.specs.declared.origins.Ref.{Ref}
 use Rattle.sat_base.specs.declared.origins.Ref.TheVariants.{Input, Shared, Own}
 use Rattle.trace_core.specs.Known.{item_at}
 use Rattle.trace_core.specs.declared.derivation.Step.{Step}
+use Rattle.trace_trim.specs.Reached.{LeadTo}
 
 -- the step that a name names: a step of a packet, or an own step
 abbrev pub step_named : List (List Step) → List Step → Ref → Option Step
@@ -21,7 +22,7 @@ cited (Own n) (Own number) = Some (Own number)
 
 -- one of these hints, of the step of that name, names the other step
 abbrev pub AreCiting : Ref → List Ref → Ref → Type 0
-AreCiting user hints other = (hint : Ref) × Contains hints hint × (cited user hint ≡ Some other)
+AreCiting user hints other = LeadTo (cited user) hints other
 
 -- the step of the first name has a hint that names the other step
 abbrev pub Cites : List (List Step) → List Step → Ref → Ref → Type 0
@@ -42,12 +43,3 @@ IsBefore (Own m) (Own n) = m < n
 -- Hints look back: each step that a hint names is there, and stands before the step with the hint.
 abbrev pub CiteEarlierSteps : List (List Step) → List Step → Type 0
 CiteEarlierSteps packets own = (user other : Ref) → Cites packets own user other → IsSome (step_named packets own other) × IsBefore other user
-
--- each name is cited by the step of the next one, and the last name by the last step, which is cited by none of them where there is none
-abbrev pub IsCitedAlong : List (List Step) → List Step → ℕ → Ref → List Ref → Type 0
-IsCitedAlong packets own last name [] = name ≡ Own last
-IsCitedAlong packets own last name (user ∷ users) = Cites packets own user name × IsCitedAlong packets own last user users
-
--- A step is reached where a chain of hints leads to it from the last step, which is reached itself.
-abbrev pub IsReached : List (List Step) → List Step → ℕ → Ref → Type 0
-IsReached packets own last name = (users : List Ref) × IsCitedAlong packets own last name users

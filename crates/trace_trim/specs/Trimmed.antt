@@ -1,5 +1,5 @@
 -- A trimmed derivation: the steps that the last one rests on, with numbers of their own.
-use Rattle.std.specs.Prelude.{◌≡◌, ℕ, ◌↔◌, ◌∷◌, [], ◌++◌, map, Some, MatchOption, List, AllPairs, Contains}
+use Rattle.std.specs.Prelude.{◌≡◌, ℕ, ◌↔◌, [], map, Some, MatchOption, List, Contains}
 use Rattle.std.specs.List.{AllZip}
 use Rattle.sat_base.specs.Lit.{opposite}
 use Rattle.sat_base.specs.declared.origins.Ref.{Ref}
@@ -7,24 +7,26 @@ use Rattle.sat_base.specs.declared.origins.Ref.TheVariants.{Own}
 use Rattle.trace_core.specs.Known.{Known, item_at}
 use Rattle.trace_core.specs.Trace.{AreOkSteps, AreOkPackets, known_of, IsTrace}
 use Rattle.trace_core.specs.declared.derivation.Step.{Step}
-use Rattle.trace_trim.specs.Names.{step_named, cited, IsBefore, IsReached}
+use Rattle.trace_trim.specs.Names.{step_named, cited, Cites, IsBefore}
+use Rattle.trace_trim.specs.Reached.{AreReached}
 
 -- The names of exactly the steps that are reached, each once, in their order. The last step stands last.
-pub record AreNamesReached (packets : List (List Step)) (own : List Step) (last : ℕ) (names : List Ref) : Type 0 where
-  pub exactly : (name : Ref) → Contains names name ↔ IsReached packets own last name
-  pub ascending : AllPairs IsBefore names
-  pub front : List Ref
-  pub ends : names ≡ front ++ Own last ∷ []
+abbrev pub AreNamesReached : List (List Step) → List Step → ℕ → List Ref → Type 0
+AreNamesReached packets own last names = AreReached (Cites packets own) IsBefore (Own last) names
 
 -- A hint renumbered: an input keeps its name, and a step is named by its place among the names, counted from 1.
 abbrev pub IsRenumberedHint : List Ref → Ref → Ref → Ref → Type 0
 IsRenumberedHint names user hint renumbered = MatchOption (cited user hint) (renumbered ≡ hint) (λ other. (place : ℕ) × (item_at names place ≡ Some other) × (renumbered ≡ Own place))
 
+-- the step with other hints, each of which is the one of the old hints, in their order
+pub record IsStepWithHints (IsNew : Ref → Ref → Type 0) (step new : Step) : Type 0 where
+  pub clause : new.clause ≡ step.clause
+  pub hints : AllZip IsNew step.hints new.hints
+  pub tag : new.tag ≡ step.tag
+
 -- the step of that name with its hints renumbered, in their order
-pub record IsStepRenumbered (names : List Ref) (name : Ref) (step renumbered : Step) : Type 0 where
-  pub clause : renumbered.clause ≡ step.clause
-  pub hints : AllZip (IsRenumberedHint names name) step.hints renumbered.hints
-  pub tag : renumbered.tag ≡ step.tag
+abbrev pub IsStepRenumbered : List Ref → Ref → Step → Step → Type 0
+IsStepRenumbered names name step renumbered = IsStepWithHints (IsRenumberedHint names name) step renumbered
 
 -- the step that the name names, renumbered
 abbrev pub IsRenumbered : List (List Step) → List Step → List Ref → Ref → Step → Type 0

@@ -7,10 +7,14 @@
 #![tactic(auto)]
 
 mod lookup;
+mod own_reach;
+mod own_renumber;
+mod packing;
 mod reach;
 mod renumber;
 #[cfg(test)]
 mod tests;
 mod trimming;
 
+pub use packing::pack;
 pub use trimming::trim;

@@ -66,6 +66,13 @@ pub(crate) fn renumbered_step(
     ensures { IfOk result (IsStepRenumbered names.now user step.now) }
 {
     let hints = renumbered_hints(alloc, names, user, step.hints.items())?;
+    with_hints(alloc, step, hints)
+}
+
+/// The step with these hints in place of its own.
+pub(crate) fn with_hints(alloc: Global, step: &Step, hints: Vec<Ref>) -> Result<Step, AllocError>
+    ensures { IfOk result (λ new. new ≡ record step.now { hints = hints.items }) }
+{
     Ok(Step {
         clause: step.clause.copy(alloc)?,
         hints: Hints::of(hints),

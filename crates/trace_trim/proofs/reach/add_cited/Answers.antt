@@ -4,7 +4,7 @@ use Rattle.std.proofs.lemmas.List.{take_all}
 use Rattle.sat_base.specs.contracts.origins.RefOrd.TheImpl as ref_ord
 use Rattle.sat_base.specs.declared.origins.Ref.{Ref}
 use Rattle.sat_base.specs.declared.origins.Ref.TheVariants.{Input}
-use Rattle.trace_trim.specs.Names.{AreCiting}
+use Rattle.trace_trim.specs.Names.{AreCiting, cited}
 use Rattle.trace_trim.proofs.Keys.{keys_more, keys_same}
 use Rattle.trace_trim.proofs.Order.{same-from_equal}
 use Rattle.trace_trim.proofs.reach.add_cited.Goals as goal
@@ -13,9 +13,9 @@ use Rattle.trace_trim.proofs.reach.add_cited.Goals.{in-Some+in_ok-insert, in_def
 pub loop-hint-preserved : goal.loop-hint-preserved
 loop-hint-preserved c =
     elim c.match-cited_by.branch [
-      | in-Some+in_ok-insert w ↦ keys_more (ref_ord.cmp-value).it same-from_equal c.args.pending.now.keys c.loop-hint.pending.keys c.match-cited_by.pending.keys c.args.user c.args.hints.now c.loop-hint.hint-index (Input 0) (slice_index_or c.args.hints.now c.loop-hint.hint-index (Input 0)) w.in-Some.name
+      | in-Some+in_ok-insert w ↦ keys_more (ref_ord.cmp-value).it same-from_equal (cited c.args.user) c.args.pending.now.keys c.loop-hint.pending.keys c.match-cited_by.pending.keys c.args.hints.now c.loop-hint.hint-index (Input 0) (slice_index_or c.args.hints.now c.loop-hint.hint-index (Input 0)) w.in-Some.name
           c.loop-hint-test.true refl (sym w.in-Some.ensures) (search rules) c.loop-hint.invariant
-      | in_default w ↦ keys_same c.args.pending.now.keys c.loop-hint.pending.keys c.match-cited_by.pending.keys c.args.user c.args.hints.now c.loop-hint.hint-index (Input 0) (slice_index_or c.args.hints.now c.loop-hint.hint-index (Input 0))
+      | in_default w ↦ keys_same (cited c.args.user) c.args.pending.now.keys c.loop-hint.pending.keys c.match-cited_by.pending.keys c.args.hints.now c.loop-hint.hint-index (Input 0) (slice_index_or c.args.hints.now c.loop-hint.hint-index (Input 0))
           c.loop-hint-test.true refl (sym w.in_default.ensures) (search rules) c.loop-hint.invariant
     ]
 
