@@ -13,8 +13,9 @@ use std::alloc::{AllocError, Global};
 use std::collections::BTreeSet;
 use trace_core::Step;
 
-/// The numbers of own step `last` and of those own steps without a name that it rests on, ascending.
-pub(crate) fn unnamed_reached_from(
+/// The numbers of the own steps that `pack` puts into the packet of own step `last`, ascending: it, and those
+/// without a name that it rests on.
+pub fn packed_numbers(
     alloc: Global,
     own: &[Step],
     names: &[Option<Ref>],

@@ -6,7 +6,7 @@ ghost use Rattle.trace_core.specs.Trace.{known_of};
 ghost use Rattle.trace_trim.specs.Packed.{CiteEarlierOwn, IsPack, IsOkWhereOwnAreOk, ends_in, HasGreatestTagLast, AreOfOwn};
 
 use crate::lookup::own_step;
-use crate::own_reach::unnamed_reached_from;
+use crate::own_reach::packed_numbers;
 use crate::own_renumber::packed_step;
 use sat_base::Ref;
 use std::alloc::{AllocError, Global};
@@ -30,7 +30,7 @@ pub fn pack(
     ensures tags { IfOk result (λ packet. HasGreatestTagLast own.now packet) }
     ensures of_own { IfOk result (λ packet. AreOfOwn own.now packet) }
 {
-    let numbers = unnamed_reached_from(alloc, own, names, last)?;
+    let numbers = packed_numbers(alloc, own, names, last)?;
     let mut steps = Vec::with_capacity(alloc, numbers.len())?;
     for number in &numbers {
         let step = own_step(own, *number);

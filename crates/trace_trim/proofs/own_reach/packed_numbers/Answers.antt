@@ -10,7 +10,7 @@ use Rattle.trace_trim.specs.Reached.{LeadTo}
 use Rattle.trace_trim.proofs.Numbers.{less_than-from_less}
 use Rattle.trace_trim.proofs.OwnWalk.{IsThere, IsOwnWalk, looks_back}
 use Rattle.trace_trim.proofs.Walk.{begun, advanced, cited_now, falls, over, none_left}
-use Rattle.trace_trim.proofs.own_reach.unnamed_reached_from.Goals as goal
+use Rattle.trace_trim.proofs.own_reach.packed_numbers.Goals as goal
 
 pub loop-number-init : goal.loop-number-init
 loop-number-init c = begun (RestsOn c.args.own.now c.args.names.now) (λ m n. m < n) (IsThere c.args.own.now) c.args.last c.push.new.self.items c.add_unnamed.new.pending.keys
