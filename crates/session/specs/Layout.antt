@@ -3,6 +3,7 @@ use Rattle.std.specs.Prelude.{◌≡◌, ℕ, List}
 use Rattle.search_core.specs.Searching.{IsSearching, solver_of}
 use Rattle.session.specs.declared.session.Session.TheInside.{Inside}
 use Rattle.session.specs.Session.{SessionView}
+use Rattle.session.specs.Publishing.{AreNamesFit}
 
 abbrev pub session_of : Inside → SessionView
 session_of a = record { solver = solver_of a.search; names = a.names.items }
@@ -11,3 +12,4 @@ session_of a = record { solver = solver_of a.search; names = a.names.items }
 pub record IsResting (a : Inside) : Type 0 where
   pub kept : (cube : List ℕ) → IsSearching a.search cube
   pub zero : a.search.trail.depth ≡ 0
+  pub names : AreNamesFit (solver_of a.search) a.names.items

@@ -6,6 +6,7 @@
 //! `Session::steps` tells. This crate knows no text, no board and no other session.
 #![tactic(auto)]
 
+mod publishing;
 mod session;
 
 pub use session::Session;

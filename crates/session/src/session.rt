@@ -20,8 +20,9 @@ use trace_core::{Packet, Step};
 /// One incremental solver. Contracts see it as its solver and the names of its published steps.
 #[derive(Debug, Drop)]
 pub struct Session {
-    search: Search,
-    names: Vec<Option<Ref>>,
+    pub(crate) search: Search,
+    // Item n - 1 is the name of own step n.
+    pub(crate) names: Vec<Option<Ref>>,
 }
 
 impl Model for Session {
