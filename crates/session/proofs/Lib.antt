@@ -1,2 +1,4 @@
 pub mod Names
 pub mod Packing
+pub mod Naming
+pub mod Published

@@ -1,6 +1,6 @@
 //! What a session gives to the shared database.
 
-ghost use Rattle.std.specs.Prelude.{◌≡◌, ℕ, ◌<◌, ◌≤◌, ◌++◌, None, length, replicate, AllPairs, Contains, IfOk, OnOk, OnErr};
+ghost use Rattle.std.specs.Prelude.{◌≡◌, ℕ, ◌<◌, ◌≤◌, ◌++◌, None, length, replicate, AllPairs, Contains, max, IfOk, OnOk, OnErr};
 ghost use Rattle.std.specs.Arc.{arc_value};
 ghost use Rattle.sat_base.specs.Lit.{IsTautology};
 ghost use Rattle.trace_core.specs.Known.{Known};
@@ -43,7 +43,9 @@ impl Session {
         reach(&mut self.names, step as usize)?;
         // At level 0 the search serves every cube, so also one without literals.
         let cube = Cube::of_ascending(Vec::new(alloc));
-        match know(&mut self.search, &cube, place, packet) {
+        let known = know(&mut self.search, &cube, place, packet);
+        let _ = self.search.trail.depth();
+        match known {
             Ok(()) => {
                 name_steps(&mut self.names, &numbers, place);
                 Ok(())
@@ -58,7 +60,7 @@ impl Session {
 
 // Has room for the names of so many steps.
 fn reach(names: &mut Vec<Option<Ref>>, steps: usize) -> Result<(), AllocError>
-    ensures ok { OnOk result ((count : ℕ) × (names.new.items ≡ names.old.items ++ replicate count None) × (steps ≤ length names.new.items)) }
+    ensures ok { OnOk result ((count : ℕ) × (names.new.items ≡ names.old.items ++ replicate count None) × (length names.new.items ≡ max (length names.old.items) steps)) }
     ensures err { OnErr result (names.new.items ≡ names.old.items) }
 {
     if steps <= names.len() {
