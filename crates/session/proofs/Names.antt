@@ -70,9 +70,13 @@ names_fit_more old new names front keep fit = record {
         let (step, at) = some_of (item_at old.steps number) there in
         let (place, place_step, is, same) = fit.right number name there named in
         let was : item_at (map known_of old.steps) number ≡ Some (known_of step) = item_at-map known_of old.steps number ∙ ap (option_map known_of) at in
-        let now : item_at (map known_of new.steps) number ≡ Some (known_of step) = item_at-map known_of new.steps number ∙ ap (λ (xs : List Step). option_map known_of (item_at xs number)) front.is ∙ ap (option_map known_of) (item_at-more old.steps front.more number step at) in
-        (place, place_step, is, ap (known new.inputs (shared_by new.packets) []) is
-            ∙ shared_stays old.inputs new.inputs old.packets new.packets place place_step (known_of step) keep (ap (known old.inputs (shared_by old.packets) []) (sym is) ∙ same ∙ was) ∙ sym now)
+        let now : item_at (map known_of new.steps) number ≡ Some (known_of step) = item_at-map known_of new.steps number ∙ ap (λ (xs : List Step). option_map known_of (item_at xs number)) front.is ∙ ap (option_map known_of) (item_at-more old.steps front.more number step at) in (
+          place,
+          place_step,
+          is,
+          ap (known new.inputs (shared_by new.packets) []) is
+              ∙ shared_stays old.inputs new.inputs old.packets new.packets place place_step (known_of step) keep (ap (known old.inputs (shared_by old.packets) []) (sym is) ∙ same ∙ was) ∙ sym now,
+        )
 
 pub place_keeps : (old new : List (Option (List Step))) (place : ℕ) (packet : List Step) → HasPlaceMore old new place packet → packet_at old place ≡ None → KeepPackets old new
 place_keeps old new place packet more free other one is = at (cases_eq other place)

@@ -8,5 +8,7 @@
 
 mod publishing;
 mod session;
+#[cfg(test)]
+mod tests;
 
 pub use session::Session;

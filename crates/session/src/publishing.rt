@@ -29,7 +29,12 @@ impl Session {
 
     /// From now on the place is known, and the own steps of its packet, which is that of own step `step`, are named as its
     /// steps. The step's clause is held. After want of memory the session is as before.
-    pub fn published(&mut self, step: u64, place: u32, packet: &Arc<Packet>) -> Result<(), AllocError>
+    pub fn published(
+        &mut self,
+        step: u64,
+        place: u32,
+        packet: &Arc<Packet>,
+    ) -> Result<(), AllocError>
         requires place { 1 ≤ place }
         requires unknown { packet_at self.old.solver.packets place ≡ None }
         requires pack { IsPack self.old.solver.steps self.old.names step (arc_value packet.now) }

@@ -67,7 +67,7 @@ invariant_of-self-in-Ok c =
     let (one, is, held) = subst (λ (view : SessionView). (one : Known) × IsStep view.solver.steps c.args.step one × Contains view.solver.held one) (sym c.self.view_is) c.requires.held in
     let pack = subst (λ (view : SessionView). IsPack view.solver.steps view.names c.args.step (arc_value c.args.packet.now)) (sym c.self.view_is) c.requires.pack in
     let reached = subst (λ (xs : List (Option Ref)). AreNumbersPacked s.steps.items xs c.args.step numbers) c.deref-2.ensures.value
-        (subst (λ (own : List Step). AreNumbersPacked own c.deref-2.result.now c.args.step numbers) c.deref.ensures.value c.in_ok-numbers.ensures) in
+    (subst (λ (own : List Step). AreNumbersPacked own c.deref-2.result.now c.args.step numbers) c.deref.ensures.value c.in_ok-numbers.ensures) in
     let within = item_at-within s.steps.items c.args.step (step_there s.steps.items c.args.step one is) in
     record {
       kept = λ other. for_any_cube c.know-known.new.search c.of_ascending-cube.result other e.kept c.depth.ensures.trail (e.depth ∙ c.self.invariant.zero);
@@ -100,7 +100,7 @@ invariant_of-self-in-Err c =
     let e = c.know-known.ensures in
     let room = c.in_ok-reach.ensures.ok in
     let same_names = c.truncate.ensures.items ∙ ap (take c.len-before.result) room.1
-        ∙ ap (λ n. take n (names ++ replicate room.0 None)) (let n : c.len-before.result ≡ length names = omega (arith, c.len-before.ensures) in n) ∙ take-append_seam names (replicate room.0 None) in
+    ∙ ap (λ n. take n (names ++ replicate room.0 None)) (let n : c.len-before.result ≡ length names = omega (arith, c.len-before.ensures) in n) ∙ take-append_seam names (replicate room.0 None) in
     record {
       kept = λ other. for_any_cube c.know-known.new.search c.of_ascending-cube.result other e.kept c.depth.ensures.trail (e.depth ∙ c.self.invariant.zero);
       zero = e.depth ∙ c.self.invariant.zero;
