@@ -2,7 +2,7 @@
 
 FILE ?= examples/counter.icnf
 
-.PHONY: run test bench-reader bench-checker bench-trace bench-learning bench-board bench-lock
+.PHONY: run test bench bench-reader bench-checker bench-trace bench-learning bench-board bench-lock
 
 # Proves what is not proved yet, builds the program, and solves FILE.
 run:
@@ -11,6 +11,10 @@ run:
 # What the merge gate runs: each proof from its sources, the edits that must fail, tests and programs.
 test:
 	.ci/run
+
+# The built program beside minisat and cadical where they are installed, on generated texts.
+bench:
+	bench/solver.py
 
 # The reader beside cat, a C loop, and the parsers of minisat and cadical where they are installed.
 bench-reader:
