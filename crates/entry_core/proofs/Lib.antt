@@ -1,2 +1,4 @@
+pub mod Inputs
+pub mod Limits
 pub mod LongerJournals
 pub mod SharedSteps

@@ -32,14 +32,14 @@ pub inputs-append : (journal more : List Entry) → inputs (journal ++ more) ≡
 inputs-append journal more = ap (tagged_from 1) (segments-append journal more) ∙ tagged-append 1 (segments journal) (segments more)
 
 -- none of the clauses of later jobs has a tag up to an earlier job
-none_tagged : (bound job : ℕ) (clauses : List (List ℕ)) → bound < job → filter (λ (input : Known). nat_le input.tag bound) (map (λ clause. record { clause = clause; tag = job }) clauses) ≡ []
+pub none_tagged : (bound job : ℕ) (clauses : List (List ℕ)) → bound < job → filter (λ (input : Known). nat_le input.tag bound) (map (λ clause. record { clause = clause; tag = job }) clauses) ≡ []
 none_tagged bound job [] lt = refl
 none_tagged bound job (clause ∷ clauses) lt =
     let above : nat_le job bound ≡ false = grind (arith, nat_tests) in
     ap (λ b. cond b (record { clause = clause; tag = job } ∷ filter (λ (input : Known). nat_le input.tag bound) (map (λ c. record { clause = c; tag = job }) clauses)) (filter (λ (input : Known). nat_le input.tag bound) (map (λ c. record { clause = c; tag = job }) clauses))) above
     ∙ none_tagged bound job clauses lt
 
-none_later : (bound job : ℕ) (rest : List Segment) → bound < job → filter (λ (input : Known). nat_le input.tag bound) (tagged_from job rest) ≡ []
+pub none_later : (bound job : ℕ) (rest : List Segment) → bound < job → filter (λ (input : Known). nat_le input.tag bound) (tagged_from job rest) ≡ []
 none_later bound job [] lt = refl
 none_later bound job (segment ∷ rest) lt =
     let own : List Known = map (λ clause. record { clause = clause; tag = job }) segment.clauses in
