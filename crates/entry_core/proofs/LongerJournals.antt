@@ -32,7 +32,7 @@ pub inputs-append : (journal more : List Entry) → inputs (journal ++ more) ≡
 inputs-append journal more = ap (tagged_from 1) (segments-append journal more) ∙ tagged-append 1 (segments journal) (segments more)
 
 -- none of the clauses of later jobs has a tag up to an earlier job
-pub none_tagged : (bound job : ℕ) (clauses : List (List ℕ)) → bound < job → filter (λ (input : Known). nat_le input.tag bound) (map (λ clause. record { clause = clause; tag = job }) clauses) ≡ []
+none_tagged : (bound job : ℕ) (clauses : List (List ℕ)) → bound < job → filter (λ (input : Known). nat_le input.tag bound) (map (λ clause. record { clause = clause; tag = job }) clauses) ≡ []
 none_tagged bound job [] lt = refl
 none_tagged bound job (clause ∷ clauses) lt =
     let above : nat_le job bound ≡ false = grind (arith, nat_tests) in
