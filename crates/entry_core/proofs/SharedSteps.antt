@@ -99,7 +99,7 @@ packet_allowed rules before caller (event.Dropped number) packet is allowed = ab
 packet_allowed rules before caller (event.Decided number given) packet is allowed = absurd (cc)
 packet_allowed rules before caller (event.Starved number) packet is allowed = absurd (cc)
 
-in_front : {X : Type 0} (xs ys : List X) (x : X) → Contains xs x → Contains (xs ++ ys) x
+pub in_front : {X : Type 0} (xs ys : List X) (x : X) → Contains xs x → Contains (xs ++ ys) x
 in_front [] ys x (k, lt, is) = absurd (omega arith)
 in_front (y ∷ xs) ys x has = either (λ later. in_front xs ys x later) (Contains-cases y x xs has)
   where
@@ -107,7 +107,7 @@ in_front (y ∷ xs) ys x has = either (λ later. in_front xs ys x later) (Contai
     either recur (inl same) = subst (Contains (y ∷ (xs ++ ys))) same (Contains-here y (xs ++ ys))
     either recur (inr later) = Contains-there y x (xs ++ ys) (recur later)
 
-from_filter : {X : Type 0} (p : X → Bool) (xs : List X) (x : X) → Contains (filter p xs) x → Contains xs x
+pub from_filter : {X : Type 0} (p : X → Bool) (xs : List X) (x : X) → Contains (filter p xs) x → Contains xs x
 from_filter p [] x (k, lt, is) = absurd (omega arith)
 from_filter p (y ∷ xs) x has = by_test (λ h. from_filter p xs x h) (p y) has
   where

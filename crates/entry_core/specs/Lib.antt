@@ -5,4 +5,5 @@ pub mod Settled
 pub mod Schedule
 pub mod Right
 pub mod Legal
+pub mod Causes
 pub mod Law

@@ -1,6 +1,6 @@
 //! Laws over the definitions alone, each as the contract of a function that does nothing.
 
-ghost use Rattle.entry_core.specs.Law.{LongerJournalKeeps, SharedStepsFollow};
+ghost use Rattle.entry_core.specs.Law.{LargeBudgetsAnswer, LargerBudgetsAnswer, LongerJournalKeeps, SharedStepsFollow, VerdictsHaveCauses};
 
 /// In a legal journal every step of a shared packet follows from the input clauses up to its tag.
 pub fn shared_steps_follow()
@@ -10,4 +10,15 @@ pub fn shared_steps_follow()
 /// A longer journal keeps the jobs, the database and the verdicts.
 pub fn longer_journal_keeps()
     ensures { LongerJournalKeeps }
+{}
+
+/// In a legal journal each verdict has its cause: a right answer, a cancel, an earlier model, spent budgets or want of memory.
+pub fn verdicts_have_causes()
+    ensures { VerdictsHaveCauses }
+{}
+
+/// A job isn't given up with a budget that is greater than the number of clauses over its variables.
+pub fn large_budgets_answer()
+    ensures literals { LargeBudgetsAnswer }
+    ensures codes { LargerBudgetsAnswer }
 {}
