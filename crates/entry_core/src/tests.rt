@@ -1,6 +1,9 @@
 //! Outcomes of verdicts, and the small types.
 
-use crate::{Answer, Clauses, Entry, Event, Outcome, Rules, Segment, Verdict};
+use crate::{
+    Answer, Clauses, Entry, Event, Outcome, Rules, Segment, Verdict, large_budgets_answer,
+    longer_journal_keeps, shared_steps_follow, verdicts_have_causes,
+};
 use sat_base::{Assign, Clause, Cube, Lit};
 use std::alloc::Global;
 use std::process::Abort;
@@ -75,4 +78,12 @@ fn an_entry_has_its_caller_and_event(rt: HostRuntime) -> Result<(), Fail> {
     };
     assert!(rt; entry.caller == 2 && matches!(&entry.event, Event::Added(_)));
     Ok(())
+}
+
+#[test]
+fn laws_can_be_called() {
+    shared_steps_follow();
+    longer_journal_keeps();
+    verdicts_have_causes();
+    large_budgets_answer();
 }
