@@ -23,7 +23,7 @@ use Rattle.entry_core.specs.Law.{LargeBudgetsAnswer, LargerBudgetsAnswer}
 use Rattle.entry_core.proofs.SharedSteps.{from_filter}
 use Rattle.entry_core.proofs.VerdictCauses.{verdicts_have_causes}
 
--- The clause as a strictly ascending one over the variables 1 to n, where it has codes of the n variables from `low` on.
+-- The clause as a strictly ascending one over the variables 1 to n, where it has codes of the n variables from `low` on: 1 for literals alone, 0 for any codes.
 abbrev set_over : ℕ → ℕ → List ℕ → List ℕ
 set_over low n clause = filter (λ lit. list_any (λ code. code == (lit + 2 * low) - 2) clause) (range_with_len 2 (2 * n))
 
@@ -53,7 +53,6 @@ range_has first count n from to =
 -- a code of the clause, among the literals 2 to 2n + 1
 set_has : (low n : ℕ) (clause : List ℕ) (code : ℕ) → 2 * low ≤ code → code / 2 < low + n → Contains clause code → Contains (set_over low n clause) ((code + 2) - 2 * low)
 set_has low n clause code from to has =
-    let lit : ℕ = (code + 2) - 2 * low in
     let back : (code == (((code + 2) - 2 * low) + 2 * low) - 2) ≡ true = (let e : code ≡ (((code + 2) - 2 * low) + 2 * low) - 2 = omega arith in grind (arith, nat_tests)) in
     Contains-filter (λ lit. list_any (λ code. code == (lit + 2 * low) - 2) clause) (range_with_len 2 (2 * n)) ((code + 2) - 2 * low)
     (range_has 2 (2 * n) ((code + 2) - 2 * low) (omega arith) (omega arith))
