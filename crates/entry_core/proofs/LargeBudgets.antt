@@ -1,5 +1,5 @@
 -- Attempts whose budget is greater than the number of clauses over the job's variables don't use it up.
-use Rattle.std.proofs.Common.{◌≡◌, ◌≢◌, ◌∙◌, ℕ, zero, suc, ◌+◌, ◌-◌, ◌*◌, ◌/◌, ◌^◌, ◌<◌, ◌≤◌, Bool, true, false, cond, Some, List, [], ◌∷◌, map, length, get_or, refl, ap, subst, sym, arith, ◌==◌}
+use Rattle.std.proofs.Common.{◌≡◌, ◌≢◌, ◌∙◌, ℕ, zero, suc, ◌+◌, ◌-◌, ◌*◌, ◌^◌, ◌<◌, ◌≤◌, Bool, true, false, cond, Some, List, [], ◌∷◌, map, length, get_or, refl, ap, subst, sym, arith, ◌==◌}
 use Rattle.std.specs.Prelude.{All, AllPairs, Contains, IsTrue, filter}
 use Rattle.std.specs.List.{list_any, range_with_len}
 use Rattle.std.proofs.lemmas.Bool.{and_from, lt-ltb}
@@ -16,16 +16,16 @@ use Rattle.entry_core.specs.declared.entries.Entry.{Entry}
 use Rattle.entry_core.specs.declared.rules.Rules.{Rules}
 use Rattle.entry_core.specs.Journal.{clauses_of, cube_of}
 use Rattle.entry_core.specs.Settled.{settled}
-use Rattle.entry_core.specs.Right.{Subsumes, IsSpent}
+use Rattle.entry_core.specs.Right.{AreLiterals, Subsumes, IsSpent}
 use Rattle.entry_core.specs.Legal.{AreWithinLimits, IsLegal}
-use Rattle.entry_core.specs.Causes.{AreLiterals, IsUnknown, spent_lists}
-use Rattle.entry_core.specs.Law.{LargeBudgetsAnswer, LargerBudgetsAnswer}
+use Rattle.entry_core.specs.Causes.{IsUnknown, spent_lists}
+use Rattle.entry_core.specs.Law.{LargeBudgetsAnswer}
 use Rattle.entry_core.proofs.SharedSteps.{from_filter}
 use Rattle.entry_core.proofs.VerdictCauses.{verdicts_have_causes}
 
--- The clause as a strictly ascending one over the variables 1 to n, where it has codes of the n variables from `low` on: 1 for literals alone, 0 for any codes.
-abbrev set_over : ℕ → ℕ → List ℕ → List ℕ
-set_over low n clause = filter (λ lit. list_any (λ code. code == (lit + 2 * low) - 2) clause) (range_with_len 2 (2 * n))
+-- the literals of the clause among those of the variables 1 to n, in strictly ascending order
+abbrev set_over : ℕ → List ℕ → List ℕ
+set_over n clause = filter (λ lit. list_any (λ code. code == lit) clause) (range_with_len 2 (2 * n))
 
 ascends : (test : ℕ → Bool) (bound first count : ℕ) → bound < first → IsTrue (ascends_above bound (filter test (range_with_len first count)))
 ascends test bound first zero lt = refl
@@ -50,68 +50,63 @@ range_has first count n from to =
     let place : n ≡ first + (n - first) = omega arith in
     (n - first, omega arith, get_or-range_with_len first count (n - first) n (omega arith) ∙ sym place)
 
--- a code of the clause, among the literals 2 to 2n + 1
-set_has : (low n : ℕ) (clause : List ℕ) (code : ℕ) → 2 * low ≤ code → code / 2 < low + n → Contains clause code → Contains (set_over low n clause) ((code + 2) - 2 * low)
-set_has low n clause code from to has =
-    let back : (code == (((code + 2) - 2 * low) + 2 * low) - 2) ≡ true = (let e : code ≡ (((code + 2) - 2 * low) + 2 * low) - 2 = omega arith in grind (arith, nat_tests)) in
-    Contains-filter (λ lit. list_any (λ code. code == (lit + 2 * low) - 2) clause) (range_with_len 2 (2 * n)) ((code + 2) - 2 * low)
-    (range_has 2 (2 * n) ((code + 2) - 2 * low) (omega arith) (omega arith))
-    (any_from_member (λ other. other == (((code + 2) - 2 * low) + 2 * low) - 2) clause code has back)
+same_code : (a b : ℕ) → (a == b) ≡ true → a ≡ b
+same_code a b is = grind (arith, nat_tests)
 
--- a literal of that set, as a code of the clause
-set_from : (low n : ℕ) (clause : List ℕ) (lit : ℕ) → Contains (set_over low n clause) lit → (2 ≤ lit) × (lit < 2 + 2 * n) × Contains clause ((lit + 2 * low) - 2)
-set_from low n clause lit has =
-    let test : ℕ → Bool = λ lit. list_any (λ code. code == (lit + 2 * low) - 2) clause in
+code_itself : (a : ℕ) → (a == a) ≡ true
+code_itself a = grind (arith, nat_tests)
+
+set_has : (n : ℕ) (clause : List ℕ) (lit : ℕ) → 2 ≤ lit → variable lit ≤ n → Contains clause lit → Contains (set_over n clause) lit
+set_has n clause lit from to has =
+    Contains-filter (λ lit. list_any (λ code. code == lit) clause) (range_with_len 2 (2 * n)) lit (range_has 2 (2 * n) lit from (omega arith))
+    (any_from_member (λ other. other == lit) clause lit has (code_itself lit))
+
+set_from : (n : ℕ) (clause : List ℕ) (lit : ℕ) → Contains (set_over n clause) lit → (2 ≤ lit) × (lit < 2 + 2 * n) × Contains clause lit
+set_from n clause lit has =
+    let test : ℕ → Bool = λ lit. list_any (λ code. code == lit) clause in
     let range = in_range 2 (2 * n) lit (from_filter test (range_with_len 2 (2 * n)) lit has) in
-    let passes : test lit ≡ true = All-contains (λ x. test x ≡ true) (set_over low n clause) lit (filter_passes test (range_with_len 2 (2 * n))) has in
-    let member = any_member (λ code. code == (lit + 2 * low) - 2) clause passes in
-    (range.0, range.1, subst (Contains clause) (same member.0 ((lit + 2 * low) - 2) member.2) member.1)
-  where
-    same : (a b : ℕ) → (a == b) ≡ true → a ≡ b
-    same a b is = grind (arith, nat_tests)
+    let passes : test lit ≡ true = All-contains (λ x. test x ≡ true) (set_over n clause) lit (filter_passes test (range_with_len 2 (2 * n))) has in
+    let member = any_member (λ code. code == lit) clause passes in
+    (range.0, range.1, subst (Contains clause) (same_code member.0 lit member.2) member.1)
 
-proper_set : (low n : ℕ) (clause : List ℕ) → ¬ IsTautology clause → IsProperClause n (set_over low n clause)
-proper_set low n clause proper = record {
-  ascending = ascends (λ lit. list_any (λ code. code == (lit + 2 * low) - 2) clause) 0 2 (2 * n) (omega arith);
-  within = All-from_members (λ lit. (2 ≤ lit) × (variable lit ≤ n)) (set_over low n clause) (λ lit has. let from = set_from low n clause lit has in (from.0, omega (arith, from.0, from.1)));
-  proper = λ both.
-      let one = set_from low n clause both.lit both.has in
-      let other = set_from low n clause (opposite both.lit) both.has_opposite in
-      proper (record { lit = (both.lit + 2 * low) - 2; has = one.2; has_opposite = subst (Contains clause) (turned both.lit low one.0) other.2 });
+proper_set : (n : ℕ) (clause : List ℕ) → ¬ IsTautology clause → IsProperClause n (set_over n clause)
+proper_set n clause proper = record {
+  ascending = ascends (λ lit. list_any (λ code. code == lit) clause) 0 2 (2 * n) (omega arith);
+  within = All-from_members (λ lit. (2 ≤ lit) × (variable lit ≤ n)) (set_over n clause) (λ lit has. let from = set_from n clause lit has in (from.0, omega (arith, from.0, from.1)));
+  proper = λ both. proper (record {
+    lit = both.lit;
+    has = (set_from n clause both.lit both.has).2;
+    has_opposite = (set_from n clause (opposite both.lit) both.has_opposite).2;
+  });
 }
-  where
-    turned : (lit low : ℕ) → 2 ≤ lit → (opposite lit + 2 * low) - 2 ≡ opposite ((lit + 2 * low) - 2)
-    turned lit low le = omega arith
 
--- each code is one of the n variables from `low` on
-abbrev AreOver : ℕ → ℕ → List ℕ → Type 0
-AreOver low n clause = (code : ℕ) → Contains clause code → (2 * low ≤ code) × (variable code < low + n)
+-- each code is that of a literal of the variables 1 to n
+abbrev AreOver : ℕ → List ℕ → Type 0
+AreOver n clause = (code : ℕ) → Contains clause code → (2 ≤ code) × (variable code ≤ n)
 
-same_sets : (low n : ℕ) (clause other : List ℕ) → AreOver low n clause → set_over low n clause ≡ set_over low n other → Subsumes clause other
-same_sets low n clause other over same = All-from_members (Contains other) clause (λ code has.
+same_sets : (n : ℕ) (clause other : List ℕ) → AreOver n clause → set_over n clause ≡ set_over n other → Subsumes clause other
+same_sets n clause other over same = All-from_members (Contains other) clause (λ code has.
     let range = over code has in
-    let there = set_from low n other ((code + 2) - 2 * low) (subst (λ xs. Contains xs ((code + 2) - 2 * low)) same (set_has low n clause code range.0 range.1 has)) in
-    let back : (((code + 2) - 2 * low) + 2 * low) - 2 ≡ code = omega (arith, range.0) in
-    subst (Contains other) back there.2)
+    (set_from n other code (subst (λ xs. Contains xs code) same (set_has n clause code range.0 range.1 has))).2)
 
 -- at most 3^n clauses over n variables, of which none subsumes a later one
-few_different : (low n : ℕ) (learnt : List (List ℕ)) → All (λ clause. ¬ IsTautology clause) learnt → AllPairs (λ earlier later. ¬ Subsumes earlier later) learnt
-    → ((clause : List ℕ) → Contains learnt clause → AreOver low n clause) → length learnt ≤ 3 ^ n
-few_different low n learnt proper different over =
-    subst (λ m. m ≤ 3 ^ n) (length-map learnt (set_over low n)) (few n (map (set_over low n) learnt) each apart)
+few_different : (n : ℕ) (learnt : List (List ℕ)) → All (λ clause. ¬ IsTautology clause) learnt → AllPairs (λ earlier later. ¬ Subsumes earlier later) learnt
+    → ((clause : List ℕ) → Contains learnt clause → AreOver n clause) → length learnt ≤ 3 ^ n
+few_different n learnt proper different over =
+    subst (λ m. m ≤ 3 ^ n) (length-map learnt (set_over n)) (few n (map (set_over n) learnt) each apart)
   where
-    each : All (IsProperClause n) (map (set_over low n) learnt)
-    each = All-map (IsProperClause n) (set_over low n) learnt
-        (All-weaker (λ clause. ¬ IsTautology clause) (λ clause. IsProperClause n (set_over low n clause)) (proper_set low n) learnt proper)
+    each : All (IsProperClause n) (map (set_over n) learnt)
+    each = All-map (IsProperClause n) (set_over n) learnt
+        (All-weaker (λ clause. ¬ IsTautology clause) (λ clause. IsProperClause n (set_over n clause)) (proper_set n) learnt proper)
 
-    apart : AllPairs (λ one other. one ≢ other) (map (set_over low n) learnt)
+    apart : AllPairs (λ one other. one ≢ other) (map (set_over n) learnt)
     apart i j d lt within same =
-        let size = length-map learnt (set_over low n) in
+        let size = length-map learnt (set_over n) in
         let j_in : j < length learnt = omega arith in
         let i_in : i < length learnt = omega arith in
         different i j [] lt j_in
-        (same_sets low n (get_or learnt i []) (get_or learnt j []) (over (get_or learnt i []) (Contains-get_or learnt i [] i_in))
-        (sym (get_or-map (set_over low n) learnt i [] d i_in) ∙ same ∙ get_or-map (set_over low n) learnt j [] d j_in))
+        (same_sets n (get_or learnt i []) (get_or learnt j []) (over (get_or learnt i []) (Contains-get_or learnt i [] i_in))
+        (sym (get_or-map (set_over n) learnt i [] d i_in) ∙ same ∙ get_or-map (set_over n) learnt j [] d j_in))
 
 greatest_variable : (clause : List ℕ) (code : ℕ) → Contains clause code → variable code ≤ greatest_of clause
 greatest_variable [] code (k, lt, is) = absurd (omega arith)
@@ -119,13 +114,12 @@ greatest_variable (first ∷ rest) code (zero, lt, is) = let e : variable code �
 greatest_variable (first ∷ rest) code (suc k, lt, is) = let h = greatest_variable rest code (k, omega arith, is) in omega arith
 
 -- a budget that was used up
-spent_budget : (low n : ℕ) (clauses : List (List ℕ)) (most budget : ℕ) (learnt : List (List ℕ)) → IsSpent clauses most budget learnt → most < low + n
-    → ((clause : List ℕ) → Contains learnt clause → (code : ℕ) → Contains clause code → 2 * low ≤ code) → budget ≤ 3 ^ n
-spent_budget low n clauses most budget learnt spent few from =
-    subst (λ m. m ≤ 3 ^ n) spent.number (few_different low n learnt spent.proper spent.different (λ clause has code member.
-    let greatest : greatest_of clause ≤ most = All-contains (λ clause. greatest_of clause ≤ most) learnt clause spent.within has in
+spent_budget : (n : ℕ) (clauses : List (List ℕ)) (budget : ℕ) (learnt : List (List ℕ)) → IsSpent clauses n budget learnt → budget ≤ 3 ^ n
+spent_budget n clauses budget learnt spent =
+    subst (λ m. m ≤ 3 ^ n) spent.number (few_different n learnt spent.proper spent.different (λ clause has code member.
+    let greatest : greatest_of clause ≤ n = All-contains (λ clause. greatest_of clause ≤ n) learnt clause spent.within has in
     let here = greatest_variable clause code member in
-    (from clause has code member, omega arith)))
+    (All-contains (λ code. 2 ≤ code) clause code (All-contains AreLiterals learnt clause spent.literals has) member, omega arith)))
 
 -- the first list of a job that was given up
 record HasList (rules : Rules) (journal : List Entry) (job : ℕ) : Type 0 where
@@ -140,14 +134,6 @@ has_list rules journal job legal limits is =
     record { learnt = get_or (spent_lists journal job) 0 []; own = Contains-get_or (spent_lists journal job) 0 [] some; spent = unknown.each 0 [] some }
 
 pub large_budgets_answer : LargeBudgetsAnswer
-large_budgets_answer rules journal job legal limits literals is =
+large_budgets_answer rules journal job legal limits is =
     let found = has_list rules journal job legal limits is in
-    let own : All AreLiterals found.learnt = All-contains (All AreLiterals) (spent_lists journal job) found.learnt literals found.own in
-    spent_budget 1 (variables (clauses_of journal job) (cube_of journal job)) (clauses_of journal job) (variables (clauses_of journal job) (cube_of journal job)) rules.conflicts found.learnt found.spent (omega arith)
-    (λ clause has code member. let le = All-contains (λ code. 2 ≤ code) clause code (All-contains AreLiterals found.learnt clause own has) member in omega arith)
-
-pub larger_budgets_answer : LargerBudgetsAnswer
-larger_budgets_answer rules journal job legal limits is =
-    let found = has_list rules journal job legal limits is in
-    spent_budget 0 (variables (clauses_of journal job) (cube_of journal job) + 1) (clauses_of journal job) (variables (clauses_of journal job) (cube_of journal job)) rules.conflicts found.learnt found.spent (omega arith)
-    (λ clause has code member. omega arith)
+    spent_budget (variables (clauses_of journal job) (cube_of journal job)) (clauses_of journal job) rules.conflicts found.learnt found.spent

@@ -47,7 +47,3 @@ HasCause rules journal job (verdict.Answered answer) = IsRightAnswer journal job
 HasCause rules journal job (verdict.Cancelled by) = ((by ≡ 0) × Contains (cancelled journal) job) ⊎ IsOvertaken rules journal job by
 HasCause rules journal job verdict.Spent = IsUnknown rules journal job
 HasCause rules journal job verdict.Starved = IsStarved journal job
-
--- The codes 0 and 1 are those of no literal.
-abbrev pub AreLiterals : List ℕ → Type 0
-AreLiterals clause = All (λ code. 2 ≤ code) clause

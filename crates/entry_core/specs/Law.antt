@@ -1,5 +1,5 @@
 -- Laws of legal journals.
-use Rattle.std.specs.Prelude.{◌≡◌, ℕ, ◌+◌, ◌^◌, ◌≤◌, Some, List, ◌++◌, All, Contains}
+use Rattle.std.specs.Prelude.{◌≡◌, ℕ, ◌^◌, ◌≤◌, Some, List, ◌++◌, Contains}
 use Rattle.sat_base.specs.Lit.{variables}
 use Rattle.sat_base.specs.Truth.{Entails}
 use Rattle.trace_core.specs.declared.derivation.Step.{Step}
@@ -10,7 +10,7 @@ use Rattle.entry_core.specs.declared.rules.Rules.{Rules}
 use Rattle.entry_core.specs.Journal.{jobs, inputs_of, clauses_of, cube_of, packets}
 use Rattle.entry_core.specs.Settled.{settled}
 use Rattle.entry_core.specs.Legal.{AreWithinLimits, IsLegal}
-use Rattle.entry_core.specs.Causes.{AreLiterals, HasCause, spent_lists}
+use Rattle.entry_core.specs.Causes.{HasCause}
 
 -- Every step of a shared packet follows from the input clauses up to its tag.
 abbrev pub SharedStepsFollow : Type 0
@@ -35,13 +35,7 @@ abbrev pub VerdictsHaveCauses : Type 0
 VerdictsHaveCauses = (rules : Rules) (journal : List Entry) (job : ℕ) (given : Verdict) → IsLegal rules journal
     → settled rules journal job ≡ Some given → HasCause rules journal job given
 
--- A job whose attempts learnt clauses of literals is never given up with a budget that is greater than the number of clauses over its variables.
+-- A job is never given up with a budget that is greater than the number of clauses over its variables.
 abbrev pub LargeBudgetsAnswer : Type 0
 LargeBudgetsAnswer = (rules : Rules) (journal : List Entry) (job : ℕ) → IsLegal rules journal → AreWithinLimits rules
-    → All (All AreLiterals) (spent_lists journal job) → settled rules journal job ≡ Some verdict.Spent
-    → rules.conflicts ≤ 3 ^ variables (clauses_of journal job) (cube_of journal job)
-
--- Whatever codes the attempts learnt: the codes 0 and 1 count as those of one variable more.
-abbrev pub LargerBudgetsAnswer : Type 0
-LargerBudgetsAnswer = (rules : Rules) (journal : List Entry) (job : ℕ) → IsLegal rules journal → AreWithinLimits rules
-    → settled rules journal job ≡ Some verdict.Spent → rules.conflicts ≤ 3 ^ (variables (clauses_of journal job) (cube_of journal job) + 1)
+    → settled rules journal job ≡ Some verdict.Spent → rules.conflicts ≤ 3 ^ variables (clauses_of journal job) (cube_of journal job)

@@ -18,10 +18,15 @@ IsRightAnswer journal job (answer.Refuted part steps) =
 abbrev pub Subsumes : List ℕ → List ℕ → Type 0
 Subsumes clause other = All (Contains other) clause
 
--- Evidence that a conflict budget was used up on new clauses alone: exactly that many clauses, each of them entailed
+-- The codes 0 and 1 are those of no literal.
+abbrev pub AreLiterals : List ℕ → Type 0
+AreLiterals clause = All (λ code. 2 ≤ code) clause
+
+-- Evidence that a conflict budget was used up on new clauses alone: exactly that many clauses of literals, each of them entailed
 -- and over the variables, none a tautology, none subsumed by a given clause or by an earlier one of the list.
 pub record IsSpent (clauses : List (List ℕ)) (most budget : ℕ) (learnt : List (List ℕ)) : Type 0 where
   pub number : length learnt ≡ budget
+  pub literals : All AreLiterals learnt
   pub proper : All (λ clause. ¬ IsTautology clause) learnt
   pub new : All (λ clause. All (λ given. ¬ Subsumes given clause) clauses) learnt
   pub different : AllPairs (λ earlier later. ¬ Subsumes earlier later) learnt

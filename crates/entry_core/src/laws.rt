@@ -1,6 +1,6 @@
 //! Laws over the definitions alone, each as the contract of a function that does nothing.
 
-ghost use Rattle.entry_core.specs.Law.{LargeBudgetsAnswer, LargerBudgetsAnswer, LongerJournalKeeps, SharedStepsFollow, VerdictsHaveCauses};
+ghost use Rattle.entry_core.specs.Law.{LargeBudgetsAnswer, LongerJournalKeeps, SharedStepsFollow, VerdictsHaveCauses};
 
 /// In a legal journal every step of a shared packet follows from the input clauses up to its tag.
 pub fn shared_steps_follow()
@@ -19,6 +19,5 @@ pub fn verdicts_have_causes()
 
 /// A job isn't given up with a budget that is greater than the number of clauses over its variables.
 pub fn large_budgets_answer()
-    ensures literals { LargeBudgetsAnswer }
-    ensures codes { LargerBudgetsAnswer }
+    ensures { LargeBudgetsAnswer }
 {}
