@@ -4,3 +4,4 @@ pub mod Budget
 pub mod Spent
 pub mod Fitting
 pub mod Copies
+pub mod Keeping

@@ -1,5 +1,5 @@
 -- What a session is asked, and how an attempt at it ends: the question is a cube over the inputs that are loaded.
-use Rattle.std.specs.Prelude.{◌≡◌, ℕ, List, map}
+use Rattle.std.specs.Prelude.{ℕ, List, map}
 use Rattle.sat_base.specs.Lit.{variables}
 use Rattle.sat_base.specs.Truth.{IsModelOf, IsRefutedPart}
 use Rattle.trace_core.specs.Known.{Known, item_at, clause_of}
@@ -8,15 +8,9 @@ use Rattle.trace_core.specs.declared.derivation.Step.{Step}
 use Rattle.entry_core.specs.Right.{IsSpent}
 use Rattle.entry_core.specs.declared.answers.Answer.{Answer}
 use Rattle.entry_core.specs.declared.answers.Answer.TheVariants as answer
-use Rattle.search_core.specs.Solver.{Solver, clauses_of}
+use Rattle.search_core.specs.Solver.{clauses_of}
 use Rattle.attempt_core.specs.declared.ends.End.{End}
 use Rattle.attempt_core.specs.declared.ends.End.TheVariants.{Answered, Spent}
-
--- another solver for the same question
-pub record IsSameQuestion (old new : Solver) : Type 0 where
-  pub inputs : new.inputs ≡ old.inputs
-  pub bound : new.bound ≡ old.bound
-  pub packets : new.packets ≡ old.packets
 
 -- a model, or a refuted part of the cube with a trace from the inputs
 abbrev pub IsRightOver : List Known → List ℕ → Answer → Type 0

@@ -1,11 +1,13 @@
 //! Attempts.
 
-ghost use Rattle.std.specs.Prelude.{◌≡◌, [], IfOk, OnOk};
+ghost use Rattle.std.specs.Prelude.{◌≡◌, ◌≤◌, [], IfOk, OnOk};
 ghost use Rattle.search_core.specs.Refutations.{IsRefutation};
+ghost use Rattle.search_core.specs.Solving.{Keeps};
 ghost use Rattle.board_core.specs.Replies.{IsJob};
 ghost use Rattle.attempt_core.specs.Fits.{Fits};
 ghost use Rattle.attempt_core.specs.Ends.{IsEnd};
-ghost use Rattle.attempt_core.specs.Asked.{IsEndOver, IsRightOver, IsSameQuestion};
+ghost use Rattle.attempt_core.specs.Asked.{IsEndOver, IsRightOver};
+ghost use Rattle.attempt_core.specs.Kept.{KeepsLearnt};
 
 use crate::ends::End;
 use crate::lessons::learnt_behind;
@@ -22,7 +24,7 @@ use trace_trim::trim;
 
 /// One attempt at a job: the session is brought to the job, and makes rounds of at most 256 learnt clauses, never
 /// more than the budget leaves, until it has an answer or has learnt as many clauses as the rules' budget. What it
-/// learnt is kept for later attempts. After want of memory nothing is known of the session.
+/// learnt is kept for later attempts, unless the session was past the job: then it begins anew.
 pub fn pursue(
     alloc: Global,
     board: &Board,
@@ -34,6 +36,7 @@ pub fn pursue(
     ensures fits { OnOk result (Fits session.new.solver board.now.journal) }
     ensures bound { OnOk result (session.new.solver.bound ≡ job) }
     ensures end { IfOk result (IsEnd board.now job) }
+    ensures kept { session.old.solver.bound ≤ job → KeepsLearnt session.old.solver session.new.solver }
 {
     bring_to(alloc, board, session, job)?;
     let segment = board.segment(job)?;
@@ -48,7 +51,7 @@ fn attempt(
     budget: u64,
 ) -> Result<End, AllocError>
     requires packets { session.old.solver.packets ≡ [] }
-    ensures same { OnOk result (IsSameQuestion session.old.solver session.new.solver) }
+    ensures keeps { Keeps session.old.solver session.new.solver }
     ensures end { IfOk result (IsEndOver session.old.solver.inputs cube.now budget) }
 {
     // What every session keeps is known before the rounds and after them.

@@ -1,9 +1,10 @@
 //! Sessions brought to a job.
 
-ghost use Rattle.std.specs.Prelude.{◌≡◌, ◌+◌, ◌<◌, OnOk};
+ghost use Rattle.std.specs.Prelude.{◌≡◌, ◌+◌, ◌<◌, ◌≤◌, OnOk};
 ghost use Rattle.entry_core.specs.Journal.{jobs};
 ghost use Rattle.board_core.specs.Replies.{IsJob};
 ghost use Rattle.attempt_core.specs.Fits.{Fits};
+ghost use Rattle.attempt_core.specs.Kept.{KeepsLearnt};
 
 use board_core::Board;
 use session::Session;
@@ -21,6 +22,7 @@ pub(crate) fn bring_to(
     requires fits { Fits session.old.solver board.now.journal }
     ensures fits { OnOk result (Fits session.new.solver board.now.journal) }
     ensures bound { OnOk result (session.new.solver.bound ≡ job) }
+    ensures kept { session.old.solver.bound ≤ job → KeepsLearnt session.old.solver session.new.solver }
 {
     if session.bound() > job {
         *session = Session::new(alloc, 0);
@@ -37,6 +39,7 @@ fn load_next(board: &Board, session: &mut Session) -> Result<(), AllocError>
     requires more { session.old.solver.bound < jobs board.now.journal }
     ensures fits { OnOk result (Fits session.new.solver board.now.journal) }
     ensures bound { OnOk result (session.new.solver.bound ≡ session.old.solver.bound + 1) }
+    ensures kept { KeepsLearnt session.old.solver session.new.solver }
 {
     // A legal journal keeps the limits on jobs and clauses.
     let _ = board.journal();

@@ -1,7 +1,7 @@
 //! Rounds up to a budget.
 
 ghost use Rattle.std.specs.Prelude.{IfOk};
-ghost use Rattle.search_core.specs.Solving.{Solves};
+ghost use Rattle.search_core.specs.Solving.{Keeps, Solves};
 
 use sat_base::Cube;
 use search_core::Round;
@@ -18,7 +18,8 @@ pub(crate) fn run_rounds(
     cube: &Cube,
     budget: u64,
 ) -> Result<Round, AllocError>
-    ensures { IfOk result (Solves session.old.solver session.new.solver cube.now budget) }
+    ensures round { IfOk result (Solves session.old.solver session.new.solver cube.now budget) }
+    ensures keeps { Keeps session.old.solver session.new.solver }
 {
     let mut left = budget;
     while left > 0 {
