@@ -1,0 +1,6 @@
+use Rattle.std.proofs.Common.{◌≡◌, map, take}
+use Rattle.attempt_core.specs.Asked.{clause_at}
+use Rattle.attempt_core.proofs.lessons.learnt_behind.Given as goal
+
+abbrev pub invariant-loop-number : goal.invariant-loop-number
+invariant-loop-number l = l.clauses.items ≡ map (clause_at l.session.solver.steps) (take l.number-index l.numbers)

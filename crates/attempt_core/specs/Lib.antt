@@ -1,0 +1,4 @@
+pub mod Fits
+pub mod Ends
+pub mod Asked
+pub mod Kept
