@@ -4,7 +4,7 @@ use Rattle.std.specs.Prelude.{All}
 use Rattle.std.proofs.lemmas.List.{append-nil}
 use Rattle.std.proofs.lemmas.List.Elements.{All-append, All-nil}
 use Rattle.search_core.specs.Solver.{Solver}
-use Rattle.session.specs.Session.{no_inputs}
+use Rattle.session.specs.Session.{SessionView, no_inputs}
 use Rattle.entry_core.specs.declared.entries.Entry.{Entry}
 use Rattle.entry_core.specs.declared.entries.Event.{Event}
 use Rattle.entry_core.specs.Journal.{segments, jobs}
@@ -30,9 +30,12 @@ fits_entered solver old new caller happened is fits = subst (λ (b : State). Fit
 pub fits_ended : (solver : Solver) (old new : State) (caller number job : ℕ) → HasEnded old new caller number job → Fits solver old.journal → Fits solver new.journal
 fits_ended solver old new caller number job ended fits = fits_entered solver old new caller ended.happened ended.is fits
 
--- a session without clauses fits every board
-pub fits_none : (journal : List Entry) → Fits no_inputs journal
+fits_none : (journal : List Entry) → Fits no_inputs journal
 fits_none journal = record { added = omega arith; inputs = sym (inputs_kept [] journal 0 (omega arith)); packets = refl }
+
+-- a new session fits every board
+pub fits_new : (session : SessionView) (journal : List Entry) → session ≡ record { solver = no_inputs; names = [] } → Fits session.solver journal
+fits_new session journal is = subst (λ (s : SessionView). Fits s.solver journal) (sym is) (fits_none journal)
 
 pub nothing_more : (board : State) (caller : ℕ) → HasAttemptsMore board board caller
 nothing_more board caller = record {

@@ -6,6 +6,8 @@
 #![tactic(auto)]
 
 mod ends;
+#[cfg(test)]
+mod tests;
 mod working;
 
 pub use working::work_alone;

@@ -1,11 +1,9 @@
 -- After want of memory the board was as before, and the session is new.
 use Rattle.std.proofs.Common.{◌≡◌, sym, subst, rules}
-use Rattle.session.specs.Session.{SessionView}
 use Rattle.board_core.specs.State.{State}
-use Rattle.attempt_core.specs.Fits.{Fits}
 use Rattle.worker_loop.specs.Attempts.{HasEnded, IsAt}
 use Rattle.worker_loop.proofs.Ended.{ended_starved}
-use Rattle.worker_loop.proofs.Kept.{fits_none}
+use Rattle.worker_loop.proofs.Kept.{fits_new}
 use Rattle.worker_loop.proofs.ends.make_attempt.Goals as goal
 
 pub returns-then-is_err-clause-ended : goal.returns-then-is_err-clause-ended
@@ -16,4 +14,4 @@ returns-then-is_err-clause-ended c =
     (ended_starved c.pursue_and_end.new.board c.starve.new.board c.args.caller c.args.attempt c.args.job here c.starve.ensures)
 
 pub returns-then-is_err-clause-fits : goal.returns-then-is_err-clause-fits
-returns-then-is_err-clause-fits c = subst (λ (s : SessionView). Fits s.solver c.starve.new.board.journal) (sym c.new.ensures) (fits_none c.starve.new.board.journal)
+returns-then-is_err-clause-fits c = fits_new c.new.result c.starve.new.board.journal c.new.ensures
