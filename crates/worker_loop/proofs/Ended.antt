@@ -22,7 +22,7 @@ use Rattle.board_core.specs.Replies.{job_in, job_at}
 use Rattle.board_core.proofs.Readings.{unread, read_on, settled_push}
 use Rattle.board_core.proofs.Verdicts.{entry_by}
 use Rattle.board_core.proofs.Indexed.{spent_more}
-use Rattle.worker_loop.specs.Attempts.{IsAt, EndsBy, HasEnded}
+use Rattle.worker_loop.specs.Attempts.{IsAt, EndsBy, HasEnded, HasFound}
 
 some_first : (given other : Option Verdict) → IsSome given → IsSome (or_else given other)
 some_first None other is = absurd (cc)
@@ -98,41 +98,50 @@ at_own board caller number job here =
     ap (is_at job) found ∙ itself
 
 -- a settled job whose attempt was dropped
-ended_dropped : (old new : State) (caller number job : ℕ) → IsAt old caller number job
-    → IsSome (settled old.rules old.journal (job_at old number)) × (new ≡ entered old caller (event.Dropped number)) → HasEnded old new caller number job
-ended_dropped old new caller number job here late =
+found_dropped : (old new : State) (caller number job : ℕ) → IsAt old caller number job
+    → IsSome (settled old.rules old.journal (job_at old number)) × (new ≡ entered old caller (event.Dropped number)) → HasFound old new caller number job
+found_dropped old new caller number job here late =
     let settled_job : IsSome (settled old.rules old.journal job) = subst (λ n. IsSome (settled old.rules old.journal n)) here.at_job late.0 in
     record {
-      happened = event.Dropped number;
-      ends = refl;
-      is = late.1;
-      nearer = inl (subst (λ (b : State). IsSome (settled b.rules b.journal job)) (sym late.1)
-          (still_settled old.rules old.journal (entry_by caller (event.Dropped number)) job settled_job));
+      ended = record {
+        happened = event.Dropped number;
+        ends = refl;
+        is = late.1;
+        nearer = inl (subst (λ (b : State). IsSome (settled b.rules b.journal job)) (sym late.1)
+            (still_settled old.rules old.journal (entry_by caller (event.Dropped number)) job settled_job));
+      };
+      memory = tt;
     }
 
-pub ended_decided : (old new : State) (caller number job : ℕ) (given : Arc Answer Global) → IsAt old caller number job → EndsBy old new caller number (event.Decided number given)
-    → HasEnded old new caller number job
-ended_decided old new caller number job given here (inr late) = ended_dropped old new caller number job here late
-ended_decided old new caller number job given here (inl is) = record {
-  happened = event.Decided number given;
-  ends = refl;
-  is = is;
-  nearer = inl (subst (λ (b : State). IsSome (settled b.rules b.journal job)) (sym is)
-      (settled_by_answer old.rules old.journal caller number job given (at_own old caller number job here)));
+pub found_decided : (old new : State) (caller number job : ℕ) (given : Arc Answer Global) → IsAt old caller number job → EndsBy old new caller number (event.Decided number given)
+    → HasFound old new caller number job
+found_decided old new caller number job given here (inr late) = found_dropped old new caller number job here late
+found_decided old new caller number job given here (inl is) = record {
+  ended = record {
+    happened = event.Decided number given;
+    ends = refl;
+    is = is;
+    nearer = inl (subst (λ (b : State). IsSome (settled b.rules b.journal job)) (sym is)
+        (settled_by_answer old.rules old.journal caller number job given (at_own old caller number job here)));
+  };
+  memory = tt;
 }
 
-pub ended_spent : (old new : State) (caller number job : ℕ) (learnt : Arc Clauses Global) → IsAt old caller number job → EndsBy old new caller number (event.Spent number learnt)
-    → HasEnded old new caller number job
-ended_spent old new caller number job learnt here (inr late) = ended_dropped old new caller number job here late
-ended_spent old new caller number job learnt here (inl is) = record {
-  happened = event.Spent number learnt;
-  ends = refl;
-  is = is;
-  nearer = inr (ap (λ (b : State). spent_attempts b.journal job) is ∙ spent_by_one old.journal caller number job learnt (at_own old caller number job here));
+pub found_spent : (old new : State) (caller number job : ℕ) (learnt : Arc Clauses Global) → IsAt old caller number job → EndsBy old new caller number (event.Spent number learnt)
+    → HasFound old new caller number job
+found_spent old new caller number job learnt here (inr late) = found_dropped old new caller number job here late
+found_spent old new caller number job learnt here (inl is) = record {
+  ended = record {
+    happened = event.Spent number learnt;
+    ends = refl;
+    is = is;
+    nearer = inr (ap (λ (b : State). spent_attempts b.journal job) is ∙ spent_by_one old.journal caller number job learnt (at_own old caller number job here));
+  };
+  memory = tt;
 }
 
 pub ended_starved : (old new : State) (caller number job : ℕ) → IsAt old caller number job → EndsBy old new caller number (event.Starved number) → HasEnded old new caller number job
-ended_starved old new caller number job here (inr late) = ended_dropped old new caller number job here late
+ended_starved old new caller number job here (inr late) = (found_dropped old new caller number job here late).ended
 ended_starved old new caller number job here (inl is) = record {
   happened = event.Starved number;
   ends = refl;

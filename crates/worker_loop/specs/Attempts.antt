@@ -32,6 +32,18 @@ pub record HasEnded (old new : State) (caller number job : ℕ) : Type 0 where
   pub is : new ≡ entered old caller happened
   pub nearer : IsSome (settled new.rules new.journal job) ⊎ (spent_attempts new.journal job ≡ suc (spent_attempts old.journal job))
 
+-- an event that ends an attempt which found memory
+abbrev pub FoundMemory : Event → Type 0
+FoundMemory (event.Spent number learnt) = Unit {0}
+FoundMemory (event.Dropped number) = Unit {0}
+FoundMemory (event.Decided number given) = Unit {0}
+FoundMemory _ = ⊥
+
+-- The attempt ended with what it found: an answer or a spent list.
+pub record HasFound (old new : State) (caller number job : ℕ) : Type 0 where
+  pub ended : HasEnded old new caller number job
+  pub memory : FoundMemory ended.happened
+
 -- how many attempts at the job may still be spent
 abbrev pub attempts_left : Rules → List Entry → ℕ → ℕ
 attempts_left rules journal job = if is_some (settled rules journal job) then 0 else rules.attempts - spent_attempts journal job

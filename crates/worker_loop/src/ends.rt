@@ -6,7 +6,7 @@ ghost use Rattle.entry_core.specs.Right.{IsRightAnswer, IsSpentFor};
 ghost use Rattle.entry_core.specs.declared.entries.Event.TheVariants as event;
 ghost use Rattle.board_core.specs.Replies.{IsOwn, job_at};
 ghost use Rattle.attempt_core.specs.Fits.{Fits};
-ghost use Rattle.worker_loop.specs.Attempts.{EndsBy, HasEnded, IsAt};
+ghost use Rattle.worker_loop.specs.Attempts.{EndsBy, HasEnded, HasFound, IsAt};
 
 use attempt_core::{End, pursue};
 use board_core::Board;
@@ -47,7 +47,7 @@ fn pursue_and_end(
 ) -> Result<(), AllocError>
     requires at { IsAt board.old caller attempt job }
     requires fits { Fits session.old.solver board.old.journal }
-    ensures ended { OnOk result (HasEnded board.old board.new caller attempt job) }
+    ensures found { OnOk result (HasFound board.old board.new caller attempt job) }
     ensures fits { OnOk result (Fits session.new.solver board.new.journal) }
     ensures err { OnErr result (board.new ≡ board.old) }
 {
