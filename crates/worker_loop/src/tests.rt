@@ -14,7 +14,7 @@ use std::process::Abort;
 use std::sync::Arc;
 use std::test::Fail;
 
-// No variable is true that isn't asked for, and the first one is asked not to be.
+// One of two variables, and not the first.
 const EASY: &[&[i32]] = &[&[1, 2], &[-1]];
 
 // Three pigeons in two holes.
