@@ -4,7 +4,6 @@ use Rattle.entry_core.specs.declared.entries.Event.{Event}
 use Rattle.entry_core.specs.declared.entries.Event.TheVariants as event
 use Rattle.entry_core.specs.Attempts.{ended_by}
 use Rattle.board_core.proofs.Ended.{IsEnd}
-use Rattle.worker_loop.specs.Working.{IsOfAttempt}
 
 -- An event that ends an attempt begins none, and says nothing of jobs, packets and the closing.
 pub ends_one : (caller number : ℕ) (happened : Event) → ended_by happened ≡ Some number → IsEnd caller happened number
@@ -17,14 +16,3 @@ ends_one caller number event.Closed is = absurd (cc)
 ends_one caller number (event.Cancelled job) is = absurd (cc)
 ends_one caller number (event.Began job n) is = absurd (cc)
 ends_one caller number (event.Shared packet) is = absurd (cc)
-
-pub ends_fit : (number : ℕ) (happened : Event) → ended_by happened ≡ Some number → IsOfAttempt happened
-ends_fit number (event.Spent n learnt) is = tt
-ends_fit number (event.Dropped n) is = tt
-ends_fit number (event.Decided n given) is = tt
-ends_fit number (event.Starved n) is = tt
-ends_fit number (event.Added segment) is = absurd (cc)
-ends_fit number event.Closed is = absurd (cc)
-ends_fit number (event.Cancelled job) is = absurd (cc)
-ends_fit number (event.Began job n) is = absurd (cc)
-ends_fit number (event.Shared packet) is = absurd (cc)

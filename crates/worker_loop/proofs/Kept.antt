@@ -1,6 +1,5 @@
 -- What stays when a board gets entries of attempts.
-use Rattle.std.proofs.Common.{◌≡◌, ◌∙◌, ℕ, ◌+◌, List, [], ◌∷◌, ◌++◌, length, refl, ap, sym, subst, zero, suc, arith, append_assoc, length-append}
-use Rattle.std.specs.Prelude.{All}
+use Rattle.std.proofs.Common.{◌≡◌, ◌∙◌, ℕ, ◌+◌, List, [], ◌∷◌, ◌++◌, length, refl, ap, sym, subst, arith, append_assoc, length-append}
 use Rattle.std.proofs.lemmas.List.{append-nil}
 use Rattle.std.proofs.lemmas.List.Elements.{All-append, All-nil}
 use Rattle.search_core.specs.Solver.{Solver}
@@ -45,19 +44,6 @@ nothing_more board caller = record {
   own = All-nil (λ (entry : Entry). entry.caller ≡ caller);
   attempts = All-nil (λ (entry : Entry). IsOfAttempt entry.event);
 }
-
-pub one_more : (old new : State) (caller : ℕ) (happened : Event) → new ≡ entered old caller happened → IsOfAttempt happened → HasAttemptsMore old new caller
-one_more old new caller happened is fit = record {
-  rules = ap (λ (b : State). b.rules) is;
-  more = entry_by caller happened ∷ [];
-  is = ap (λ (b : State). b.journal) is;
-  own = of_one (λ (entry : Entry). entry.caller ≡ caller) refl;
-  attempts = of_one (λ (entry : Entry). IsOfAttempt entry.event) fit;
-}
-  where
-    of_one : (P : Entry → Type 0) → P (entry_by caller happened) → All P (entry_by caller happened ∷ [])
-    of_one P is zero d lt = is
-    of_one P is (suc k) d lt = absurd (omega arith)
 
 pub both_more : (old mid new : State) (caller : ℕ) → HasAttemptsMore old mid caller → HasAttemptsMore mid new caller → HasAttemptsMore old new caller
 both_more old mid new caller front back = record {

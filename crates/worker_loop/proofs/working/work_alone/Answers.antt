@@ -7,6 +7,13 @@ use Rattle.worker_loop.proofs.Kept.{both_more}
 use Rattle.worker_loop.proofs.Finished.{all_settled}
 use Rattle.worker_loop.proofs.working.work_alone.Goals as goal
 
+pub attempts-preserved : goal.attempts-preserved
+attempts-preserved c = record {
+  works = both_more c.args.board.now c.attempts.board c.work_once.new.board c.args.caller c.attempts.invariant.works c.work_once.ensures.works;
+  resting = c.work_once.ensures.resting;
+  fits = c.work_once.ensures.fits;
+}
+
 pub returns-clause-works : goal.returns-clause-works
 returns-clause-works c = both_more c.args.board.now c.attempts.board c.work_once.new.board c.args.caller c.attempts.invariant.works c.work_once.ensures.works
 
