@@ -1,0 +1,63 @@
+-- One attempt of a worker, and what is left to do after it.
+use Rattle.std.specs.Prelude.{◌≡◌, ◌⊎◌, ℕ, zero, suc, ◌+◌, ◌-◌, Some, IsSome, is_some, if◌then◌else◌, List}
+use Rattle.entry_core.specs.declared.entries.Entry.{Entry}
+use Rattle.entry_core.specs.declared.entries.Event.{Event}
+use Rattle.entry_core.specs.declared.entries.Event.TheVariants as event
+use Rattle.entry_core.specs.declared.rules.Rules.{Rules}
+use Rattle.entry_core.specs.Journal.{jobs}
+use Rattle.entry_core.specs.Attempts.{ended_by, spent_attempts}
+use Rattle.entry_core.specs.Settled.{settled}
+use Rattle.board_core.specs.State.{State, entered}
+use Rattle.board_core.specs.Replies.{IsJob, IsOwn, job_at}
+use Rattle.search_core.specs.Solver.{Solver}
+use Rattle.attempt_core.specs.Fits.{Fits}
+use Rattle.worker_loop.specs.Working.{HasAttemptsMore, IsResting}
+
+-- an open attempt of the caller at this job of the board
+pub record IsAt (board : State) (caller number job : ℕ) : Type 0 where
+  pub own : IsOwn board caller number
+  pub at_job : job_at board number ≡ job
+  pub there : IsJob board job
+
+-- The attempt ended with this event, or with being dropped where its job was settled already.
+abbrev pub EndsBy : State → State → ℕ → ℕ → Event → Type 0
+EndsBy old new caller number happened =
+    (new ≡ entered old caller happened)
+    ⊎ (IsSome (settled old.rules old.journal (job_at old number)) × (new ≡ entered old caller (event.Dropped number)))
+
+-- The attempt ended, and its job is settled now or has one spent attempt more.
+pub record HasEnded (old new : State) (caller number job : ℕ) : Type 0 where
+  pub happened : Event
+  pub ends : ended_by happened ≡ Some number
+  pub is : new ≡ entered old caller happened
+  pub nearer : IsSome (settled new.rules new.journal job) ⊎ (spent_attempts new.journal job ≡ suc (spent_attempts old.journal job))
+
+-- an event that ends an attempt which found memory
+abbrev pub FoundMemory : Event → Type 0
+FoundMemory (event.Spent number learnt) = Unit {0}
+FoundMemory (event.Dropped number) = Unit {0}
+FoundMemory (event.Decided number given) = Unit {0}
+FoundMemory _ = ⊥
+
+-- The attempt ended with what it found: an answer or a spent list.
+pub record HasFound (old new : State) (caller number job : ℕ) : Type 0 where
+  pub ended : HasEnded old new caller number job
+  pub memory : FoundMemory ended.happened
+
+-- how many attempts at the job may still be spent
+abbrev pub attempts_left : Rules → List Entry → ℕ → ℕ
+attempts_left rules journal job = if is_some (settled rules journal job) then 0 else rules.attempts - spent_attempts journal job
+
+abbrev pub left_up_to : Rules → List Entry → ℕ → ℕ
+left_up_to rules journal zero = 0
+left_up_to rules journal (suc job) = left_up_to rules journal job + attempts_left rules journal (suc job)
+
+-- how many attempts at all jobs may still be spent
+abbrev pub left_on : State → ℕ
+left_on board = left_up_to board.rules board.journal (jobs board.journal)
+
+-- What stands between attempts: those so far, the worker's rest, and the session.
+pub record GoesOn (old new : State) (caller : ℕ) (solver : Solver) : Type 0 where
+  pub works : HasAttemptsMore old new caller
+  pub resting : IsResting new caller
+  pub fits : Fits solver new.journal
