@@ -10,7 +10,7 @@ use Rattle.sat_base.specs.Truth.{Entails}
 use Rattle.sat_base.proofs.Members.{All-from_members, Contains-here, Contains-cases}
 use Rattle.trace_core.specs.Known.{Known, clause_of}
 use Rattle.trace_core.specs.declared.derivation.Step.{Step}
-use Rattle.entry_core.specs.Right.{IsSpent, Subsumes}
+use Rattle.entry_core.specs.Right.{AreLiterals, IsSpent, Subsumes}
 use Rattle.search_core.specs.declared.rounds.Round.{Round}
 use Rattle.search_core.specs.declared.rounds.Round.TheVariants.{Paused}
 use Rattle.search_core.specs.Solver.{Solver, IsSound, clauses_of}
@@ -51,9 +51,10 @@ learnt_clauses old new more before l counted =
     ∙ ap (map (clause_at new.steps)) (drop-append_seam old.learnt l.names)
     ∙ named_clauses new.steps l.names more l.named
 
-spent_more : (old new : Solver) (more : List Known) (cube : List ℕ) (budget : ℕ) → IsSound old → IsSound new → Learns old new more [] → length more ≡ budget → IsSpent (clauses_of old.inputs) (variables (clauses_of old.inputs) cube) budget (clauses_of more)
-spent_more old new more cube budget was sound l count = record {
+spent_more : (old new : Solver) (more : List Known) (cube : List ℕ) (budget : ℕ) → IsSound old → IsSound new → Learns old new more [] → length more ≡ budget → All AreLiterals (clauses_of more) → IsSpent (clauses_of old.inputs) (variables (clauses_of old.inputs) cube) budget (clauses_of more)
+spent_more old new more cube budget was sound l count literals = record {
   number = length-map more (λ (one : Known). one.clause) ∙ count;
+  literals = literals;
   proper = each (λ clause. ¬ IsTautology clause) (λ one has. (proper one has).0);
   new = each (λ clause. All (λ given. ¬ Subsumes given clause) (clauses_of old.inputs)) (λ one has.
       All-map (λ given. ¬ Subsumes given one.clause) (λ (input : Known). input.clause) old.inputs
@@ -75,8 +76,9 @@ spent_more old new more cube budget was sound l count = record {
 
 -- a paused attempt has learnt a spent list
 pub spent : (old new : Solver) (cube : List ℕ) (budget before : ℕ) (round : Round) (learnt : List (List ℕ)) → IsSound old → IsSound new → Solves old new cube budget round → round ≡ Paused → before ≡ length old.learnt
-    → learnt ≡ map (clause_at new.steps) (drop before new.learnt) → IsSpent (clauses_of old.inputs) (variables (clauses_of old.inputs) cube) budget learnt
-spent old new cube budget before round learnt was sound solves is counted copied =
+    → learnt ≡ map (clause_at new.steps) (drop before new.learnt) → All AreLiterals learnt → IsSpent (clauses_of old.inputs) (variables (clauses_of old.inputs) cube) budget learnt
+spent old new cube budget before round learnt was sound solves is counted copied literals =
     let s = subst (λ (r : Round). Solves old new cube budget r) is solves in
-    subst (λ clauses. IsSpent (clauses_of old.inputs) (variables (clauses_of old.inputs) cube) budget clauses) (sym (copied ∙ learnt_clauses old new s.more before s.learns counted))
-    (spent_more old new s.more cube budget was sound s.learns s.ends)
+    let all : learnt ≡ clauses_of s.more = copied ∙ learnt_clauses old new s.more before s.learns counted in
+    subst (λ clauses. IsSpent (clauses_of old.inputs) (variables (clauses_of old.inputs) cube) budget clauses) (sym all)
+    (spent_more old new s.more cube budget was sound s.learns s.ends (subst (All AreLiterals) all literals))

@@ -1,7 +1,8 @@
 //! What was learnt in an attempt.
 
-ghost use Rattle.std.specs.Prelude.{◌≡◌, ◌≤◌, drop, length, map, IfOk, IsSome};
+ghost use Rattle.std.specs.Prelude.{◌≡◌, ◌≤◌, drop, length, map, All, IfOk, IsSome};
 ghost use Rattle.trace_core.specs.Known.{item_at};
+ghost use Rattle.entry_core.specs.Right.{AreLiterals};
 ghost use Rattle.attempt_core.specs.Asked.{clause_at};
 
 use entry_core::Clauses;
@@ -17,7 +18,8 @@ pub(crate) fn learnt_behind(
     before: usize,
 ) -> Result<Clauses, AllocError>
     requires { before ≤ length session.now.solver.learnt }
-    ensures { IfOk result (λ clauses. clauses ≡ map (clause_at session.now.solver.steps) (drop before session.now.solver.learnt)) }
+    ensures value { IfOk result (λ clauses. clauses ≡ map (clause_at session.now.solver.steps) (drop before session.now.solver.learnt)) }
+    ensures literals { IfOk result (All AreLiterals) }
 {
     let steps = session.steps();
     let numbers = &session.learnt()[before..];
@@ -31,7 +33,10 @@ pub(crate) fn learnt_behind(
 // A copy of the clause of the step of that number, counted from 1.
 fn copy_of(alloc: Global, steps: &[Step], number: u64) -> Result<Clause, AllocError>
     requires { IsSome (item_at steps.now number) }
-    ensures { IfOk result (λ clause. clause ≡ clause_at steps.now number) }
+    ensures value { IfOk result (λ clause. clause ≡ clause_at steps.now number) }
+    ensures literals { IfOk result AreLiterals }
 {
-    steps[number as usize - 1].clause.copy(alloc)
+    let clause = &steps[number as usize - 1].clause;
+    let _ = clause.lits();
+    clause.copy(alloc)
 }

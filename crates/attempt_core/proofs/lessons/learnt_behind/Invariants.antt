@@ -1,6 +1,11 @@
 use Rattle.std.proofs.Common.{◌≡◌, map, take}
+use Rattle.std.specs.Prelude.{All}
+use Rattle.entry_core.specs.Right.{AreLiterals}
 use Rattle.attempt_core.specs.Asked.{clause_at}
 use Rattle.attempt_core.proofs.lessons.learnt_behind.Given as goal
 
 abbrev pub invariant-loop-number : goal.invariant-loop-number
-invariant-loop-number l = l.clauses.items ≡ map (clause_at l.session.solver.steps) (take l.number-index l.numbers)
+invariant-loop-number l = record {
+  value : l.clauses.items ≡ map (clause_at l.session.solver.steps) (take l.number-index l.numbers);
+  literals : All AreLiterals l.clauses.items;
+}
