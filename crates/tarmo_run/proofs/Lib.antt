@@ -1,10 +1,16 @@
-pub mod Closing
-pub mod Completeness
-pub mod Earlier
-pub mod Loaded
-pub mod Progress
-pub mod Reached
-pub mod Results
-pub mod Right
-pub mod Statements
-pub mod Traced
+mod Adding
+mod Blocks
+mod Boards
+mod Cancelled
+mod Cited
+mod Closed
+mod Completeness
+mod Desks
+mod Finishing
+mod Growing
+mod Queries
+mod Reached
+mod Results
+mod Statements
+mod Statuses
+mod WordList

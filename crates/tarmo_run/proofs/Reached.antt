@@ -1,39 +1,206 @@
--- A text that is read piece by piece.
-use Rattle.std.proofs.Common.{◌≡◌, ◌∙◌, ℕ, ◌-◌, ◌<◌, ◌≤◌, List, [], ◌++◌, length, take, Option, Bool, true, false, nat_eq, nat_lt, refl, ap, sym, subst, arith}
-use Rattle.std.proofs.Common.{inl, inr}
-use Rattle.std.specs.Prelude.{◌⊎◌, ◌||◌, Result, Ok, Err, IfOk}
+-- A text that is read and answered piece by piece.
+use Rattle.std.proofs.Common.{◌≡◌, ◌∙◌, ℕ, ◌+◌, ◌-◌, ◌<◌, ◌≤◌, List, [], ◌++◌, length, take, Option, Some, None, Bool, true, false, nat_eq, nat_lt, refl, ap, sym, subst, arith, append-nil, inl, inr}
+use Rattle.std.specs.Prelude.{◌⊎◌, ◌||◌, Result, Ok, Err, IfOk, OnErr, MatchOption}
 use Rattle.std.proofs.lemmas.Bool.{and_left, ne_eqb, or_from, lt-ltb}
 use Rattle.std.proofs.lemmas.Bool.Decides.{nat_tests}
 use Rattle.std.proofs.lemmas.List.{length-append, length-take-le}
 use Rattle.run_io.specs.Bytes.{followed_by, is_end_at}
-use Rattle.run_io.specs.declared.outside.Failed.{Failed}
 use Rattle.run_io.specs.Fault.{last_count}
-use Rattle.run_io.proofs.Laws.{appended_nothing, followed_by_twice, followed_by_nothing}
+use Rattle.run_io.specs.declared.outside.Failed.{Failed}
+use Rattle.run_io.proofs.Laws.{followed_by_nothing, followed_by_twice}
+use Rattle.entry_core.specs.declared.entries.Entry.{Entry}
+use Rattle.entry_core.specs.Journal.{jobs, segments}
+use Rattle.icnf_text.specs.declared.faults.Fault.{Fault}
 use Rattle.icnf_text.specs.declared.statements.Numbered.{Numbered}
-use Rattle.icnf_text.specs.Jobs.{jobs_after}
+use Rattle.icnf_text.specs.Judgement.{statements, wrong}
+use Rattle.icnf_text.specs.Jobs.{Job, clauses_after, clauses_of, jobs_after, jobs_of}
 use Rattle.icnf_text.specs.Machine.{State, HasRead}
-use Rattle.icnf_text.proofs.Fronts.{all_counted, nothing_stated, nothing_wrong}
+use Rattle.icnf_text.proofs.Fronts.{all_counted, ended_statements, last_statements, longer_statements, more_statements, nothing_stated, nothing_wrong}
+use Rattle.tarmo_run.specs.declared.desk.Desk.{Desk}
 use Rattle.tarmo_run.specs.declared.endings.Ending.{Ending}
-use Rattle.tarmo_run.specs.declared.endings.Ending.TheVariants.{Unread}
-use Rattle.tarmo_run.specs.Output.{AreBlocks, jobs_in, unnumbered}
-use Rattle.tarmo_run.specs.Written.{Broke, IsCaughtUp, Showed, ShowedAll, TookFront}
-use Rattle.tarmo_run.proofs.Closing.{nothing_caught}
+use Rattle.tarmo_run.specs.declared.endings.Ending.TheVariants.{Complete, Refused, Unread, Exhausted}
+use Rattle.tarmo_run.specs.Desk.{HasEntriesMore, IsDone, IsFresh, clauses_behind, clauses_read, queries_behind, queries_of}
+use Rattle.tarmo_run.specs.Output.{Reading, queries_in, unnumbered}
+use Rattle.tarmo_run.specs.Reading.{Adds, AddsFirst, IsBegun, IsCaughtUp, IsThrough, ReadsInPart, ReadsThrough, StopsBy}
+use Rattle.tarmo_run.specs.Block.{AreBlocks}
+use Rattle.tarmo_run.specs.Written.{HasWritten}
+use Rattle.tarmo_run.proofs.Boards.{blocks_stay}
+use Rattle.tarmo_run.proofs.Queries.{as_many}
+use Rattle.tarmo_run.proofs.Statements.{more_clauses, more_jobs}
+
+-- what is written stays written
+pub written_still : (trace : Bool) (old new : Desk) (before now : Option (List ℕ)) → HasEntriesMore old new → old.written ≤ jobs old.board.journal → HasWritten trace old before now → HasWritten trace new before now
+written_still trace old new before now more few took = record {
+  blocks = took.blocks;
+  right = subst (λ n. AreBlocks trace new.board n took.blocks) (sym more.written) (blocks_stay trace old.board new.board old.written took.blocks more.longer few took.right);
+  taken = took.taken;
+}
+
+-- statements and then more of them, and their queries
+told : (old new : Desk) (first list all : List Numbered) → first ++ list ≡ all → queries_of old ≡ jobs_of (unnumbered first) → clauses_read old ≡ clauses_of (unnumbered first) → Adds old new list
+    → (queries_of new ≡ jobs_of (unnumbered all)) × (clauses_read new ≡ clauses_of (unnumbered all))
+told old new first list all whole queries clauses adds = (
+  adds.queries ∙ ap (λ (jobs : List Job). jobs ++ jobs_after (clauses_read old) (unnumbered list)) queries
+  ∙ ap (λ (read : List (List ℕ)). jobs_of (unnumbered first) ++ jobs_after read (unnumbered list)) clauses
+  ∙ sym (more_jobs [] first list) ∙ ap (λ (list : List Numbered). jobs_of (unnumbered list)) whole,
+  adds.clauses ∙ ap (λ (read : List (List ℕ)). clauses_after read (unnumbered list)) clauses
+  ∙ sym (more_clauses [] first list) ∙ ap (λ (list : List Numbered). clauses_of (unnumbered list)) whole,
+)
+
+begun_by : (old new : Desk) (first list all : List Numbered) → first ++ list ≡ all → queries_of old ≡ jobs_of (unnumbered first) → clauses_read old ≡ clauses_of (unnumbered first) → (added : AddsFirst old new list)
+    → jobs_of (unnumbered all) ≡ queries_of new ++ added.left
+begun_by old new first list all whole queries clauses added =
+    sym (ap (λ (jobs : List Job). jobs ++ jobs_after (clauses_read old) (unnumbered list)) queries
+    ∙ ap (λ (read : List (List ℕ)). jobs_of (unnumbered first) ++ jobs_after read (unnumbered list)) clauses
+    ∙ sym (more_jobs [] first list) ∙ ap (λ (list : List Numbered). jobs_of (unnumbered list)) whole)
+    ∙ added.queries
+
+no_more : (queries jobs : List Job) → jobs ≡ queries → queries ≡ jobs ++ []
+no_more queries jobs same = sym same ∙ sym (append-nil jobs)
+
+-- the run stops behind these statements
+through_stop : (ending : Ending) (reader : State) (old new : Desk) (bytes whole : List ℕ) (ended failed : Bool) (list : List Numbered) (fault : Option Fault) → failed ≡ false → IsCaughtUp reader old bytes
+    → statements bytes false ++ list ≡ statements whole ended → fault ≡ wrong whole ended → StopsBy ending fault old new list → IsThrough ending (record { bytes = whole; ended = ended; failed = failed }) new
+through_stop (Complete count) reader old new bytes whole ended failed list fault unfailing up given is stop = absurd stop
+through_stop (Refused found) reader old new bytes whole ended failed list fault unfailing up given is stop =
+    let all = told old new (statements bytes false) list (statements whole ended) given up.queries up.clauses stop.1 in
+    record {
+      ends = (unfailing, sym is ∙ stop.0);
+      begun = record { left = []; queries = no_more (queries_in whole ended) (queries_of new) all.0 };
+      all = (refl, stop.2);
+    }
+through_stop Unread reader old new bytes whole ended failed list fault unfailing up given is stop = absurd stop
+through_stop Exhausted reader old new bytes whole ended failed list fault unfailing up given is stop = record {
+  ends = tt;
+  begun = record { left = stop.left; queries = begun_by old new (statements bytes false) list (statements whole ended) given up.queries up.clauses stop };
+  all = tt;
+}
+
+piece_stop : (stop : Option Ending) (reader after : State) (old new : Desk) (bytes piece : List ℕ) (failed : Bool) (list : List Numbered) (fault : Option Fault) → failed ≡ false → IsCaughtUp reader old bytes
+    → HasRead after (bytes ++ piece) → statements bytes false ++ list ≡ statements (bytes ++ piece) false → fault ≡ wrong (bytes ++ piece) false
+    → MatchOption stop ((fault ≡ None) × Adds old new list × IsDone new) (λ ending. StopsBy ending fault old new list)
+    → MatchOption stop (IsCaughtUp after new (bytes ++ piece)) (λ ending. IsThrough ending (record { bytes = bytes ++ piece; ended = false; failed = failed }) new)
+piece_stop None reader after old new bytes piece failed list fault unfailing up read given is stop =
+    let all = told old new (statements bytes false) list (statements (bytes ++ piece) false) given up.queries up.clauses stop.1 in
+    record { read = read; right = sym is ∙ stop.0; queries = all.0; clauses = all.1; done = stop.2 }
+piece_stop (Some ending) reader after old new bytes piece failed list fault unfailing up read given is stop =
+    through_stop ending reader old new bytes (bytes ++ piece) false failed list fault unfailing up given is stop
+
+-- what has come of a piece
+pub piece_through : (result : Result (Option Ending) Failed) (reader after : State) (old new : Desk) (piece : List ℕ) (list : List Numbered) (fault : Option Fault) →
+    ((text : List ℕ) → HasRead reader text → HasRead after (text ++ piece)) →
+    ((text : List ℕ) → HasRead reader text → statements text false ++ list ≡ statements (text ++ piece) false) →
+    ((text : List ℕ) → HasRead reader text → fault ≡ wrong (text ++ piece) false) →
+    IfOk result (λ stop. MatchOption stop ((fault ≡ None) × Adds old new list × IsDone new) (λ ending. StopsBy ending fault old new list)) →
+    IfOk result (λ stop. (bytes : List ℕ) (failed : Bool) → failed ≡ false → IsCaughtUp reader old bytes →
+    MatchOption stop (IsCaughtUp after new (bytes ++ piece)) (λ ending. IsThrough ending (record { bytes = bytes ++ piece; ended = false; failed = failed }) new))
+piece_through (Ok stop) reader after old new piece list fault read given is stops = λ bytes failed unfailing up.
+    piece_stop stop reader after old new bytes piece failed list fault unfailing up (read bytes up.read) (given bytes up.read) (is bytes up.read) stops
+piece_through (Err e) reader after old new piece list fault read given is stops = tt
+
+pub piece_in_part : (result : Result (Option Ending) Failed) (reader : State) (old new : Desk) (piece : List ℕ) (list : List Numbered) →
+    ((text : List ℕ) → HasRead reader text → statements text false ++ list ≡ statements (text ++ piece) false) → OnErr result (AddsFirst old new list) →
+    OnErr result ((bytes : List ℕ) (failed : Bool) → IsCaughtUp reader old bytes → IsBegun (record { bytes = bytes ++ piece; ended = false; failed = failed }) new)
+piece_in_part (Ok stop) reader old new piece list given first = tt
+piece_in_part (Err e) reader old new piece list given first = λ bytes failed up.
+    record { left = first.left; queries = begun_by old new (statements bytes false) list (statements (bytes ++ piece) false) (given bytes up.read) up.queries up.clauses first }
+
+-- more statements that weren't looked at
+begun_before : (reader : State) (desk : Desk) (bytes whole : List ℕ) (ended failed : Bool) (more : List Numbered) → statements whole ended ≡ statements bytes false ++ more → IsCaughtUp reader desk bytes → IsBegun (record { bytes = whole; ended = ended; failed = failed }) desk
+begun_before reader desk bytes whole ended failed more is up = record {
+  left = jobs_after (clauses_of (unnumbered (statements bytes false))) (unnumbered more);
+  queries = ap (λ (list : List Numbered). jobs_of (unnumbered list)) is ∙ more_jobs [] (statements bytes false) more
+      ∙ ap (λ (jobs : List Job). jobs ++ jobs_after (clauses_of (unnumbered (statements bytes false))) (unnumbered more)) (sym up.queries);
+}
+
+-- memory ran out while a piece was read
+pub through_before_piece : (reader : State) (desk : Desk) (bytes piece : List ℕ) (failed : Bool) → IsCaughtUp reader desk bytes → IsThrough Exhausted (record { bytes = bytes ++ piece; ended = false; failed = failed }) desk
+through_before_piece reader desk bytes piece failed up =
+    record { ends = tt; begun = begun_before reader desk bytes (bytes ++ piece) false failed (more_statements bytes piece) (longer_statements bytes piece) up; all = tt }
+
+-- memory ran out at the end
+pub through_before_end : (reader : State) (desk : Desk) (bytes : List ℕ) (failed : Bool) → IsCaughtUp reader desk bytes → IsThrough Exhausted (record { bytes = bytes; ended = true; failed = failed }) desk
+through_before_end reader desk bytes failed up =
+    record { ends = tt; begun = begun_before reader desk bytes bytes true failed (last_statements bytes) (ended_statements bytes) up; all = tt }
+
+-- the text ended behind what was read last
+pub through_end : (ending : Ending) (reader : State) (old new : Desk) (list : List Numbered) (fault : Option Fault) (bytes : List ℕ) (failed : Bool) → failed ≡ false → IsCaughtUp reader old bytes →
+    ((text : List ℕ) → HasRead reader text → statements text false ++ list ≡ statements text true) → ((text : List ℕ) → HasRead reader text → fault ≡ wrong text true) →
+    StopsBy ending fault old new list → IsThrough ending (record { bytes = bytes; ended = true; failed = failed }) new
+through_end ending reader old new list fault bytes failed unfailing up given is stop =
+    through_stop ending reader old new bytes bytes true failed list fault unfailing up (given bytes up.read) (is bytes up.read) stop
+
+pub through_complete : (reader : State) (old new : Desk) (count : ℕ) (list : List Numbered) (fault : Option Fault) (bytes : List ℕ) (failed : Bool) → failed ≡ false → IsCaughtUp reader old bytes →
+    ((text : List ℕ) → HasRead reader text → statements text false ++ list ≡ statements text true) → ((text : List ℕ) → HasRead reader text → fault ≡ wrong text true) →
+    fault ≡ None → Adds old new list → IsDone new → count ≡ jobs new.board.journal → IsThrough (Complete count) (record { bytes = bytes; ended = true; failed = failed }) new
+through_complete reader old new count list fault bytes failed unfailing up given is none adds done counted =
+    let all = told old new (statements bytes false) list (statements bytes true) (given bytes up.read) up.queries up.clauses adds in
+    record {
+      ends = (unfailing, refl, sym (is bytes up.read) ∙ none, counted ∙ sym (as_many [] (segments new.board.journal)) ∙ ap length all.0);
+      begun = record { left = []; queries = no_more (queries_in bytes true) (queries_of new) all.0 };
+      all = (refl, done);
+    }
+
+pub end_in_part : (reader : State) (old new : Desk) (list : List Numbered) (bytes : List ℕ) (failed : Bool) → ((text : List ℕ) → HasRead reader text → statements text false ++ list ≡ statements text true) → AddsFirst old new list
+    → IsCaughtUp reader old bytes → IsBegun (record { bytes = bytes; ended = true; failed = failed }) new
+end_in_part reader old new list bytes failed given first up =
+    record { left = first.left; queries = begun_by old new (statements bytes false) list (statements bytes true) (given bytes up.read) up.queries up.clauses first }
 
 -- how far a run has come in its text
-pub record Reached (trace : Bool) (reader : State) (clauses : List (List ℕ)) (jobs : ℕ) (left_before left_now before now : Option (List ℕ)) : Type 0 where
+pub record Reached (reader : State) (desk : Desk) (left_before left_now : Option (List ℕ)) : Type 0 where
   pub bytes : List ℕ
   pub gave : left_before ≡ followed_by bytes left_now
-  pub up : IsCaughtUp trace reader clauses jobs bytes before now
+  pub up : IsCaughtUp reader desk bytes
 
-pub nothing_reached : (trace : Bool) (reader : State) (clauses : List (List ℕ)) (jobs : ℕ) (left before : Option (List ℕ)) → HasRead reader [] → clauses ≡ [] → jobs ≡ 0 → Reached trace reader clauses jobs left left before before
-nothing_reached trace reader clauses jobs left before read none zero = record {
+caught_none : (reader : State) (desk : Desk) → HasRead reader [] → IsFresh desk → IsCaughtUp reader desk []
+caught_none reader desk read fresh = record {
+  read = read;
+  right = nothing_wrong;
+  queries = ap (λ (journal : List Entry). queries_behind [] (segments journal)) fresh.journal ∙ ap (λ (list : List Numbered). jobs_of (unnumbered list)) (sym nothing_stated);
+  clauses = ap (λ (journal : List Entry). clauses_behind [] (segments journal) ++ desk.pending.items) fresh.journal ∙ fresh.pending ∙ ap (λ (list : List Numbered). clauses_of (unnumbered list)) (sym nothing_stated);
+  done = record {
+    settled = λ job there. absurd (omega (arith, there.from_one, there.added, ap jobs fresh.journal));
+    written = fresh.written ∙ ap jobs (sym fresh.journal);
+  };
+}
+
+pub nothing_reached : (reader : State) (desk : Desk) (left : Option (List ℕ)) → HasRead reader [] → IsFresh desk → Reached reader desk left left
+nothing_reached reader desk left read fresh = record { bytes = []; gave = sym (followed_by_nothing left); up = caught_none reader desk read fresh }
+
+-- the source failed before anything was read
+pub through_unstarted : (desk : Desk) (left_before left_after : Option (List ℕ)) (ended failed : Bool) → left_after ≡ left_before → ended ≡ false → failed ≡ true → IsFresh desk → ReadsThrough Unread left_before left_after ended failed desk
+through_unstarted desk left_before left_after ended failed same unended failing fresh = record {
   bytes = [];
-  gave = sym (followed_by_nothing left);
-  up = rw none (rw zero (nothing_caught trace reader before read));
+  gave = sym same ∙ sym (followed_by_nothing left_after);
+  through = rw unended (record {
+    ends = (failing, nothing_wrong);
+    begun = record { left = []; queries = ap (λ (list : List Numbered). jobs_of (unnumbered list)) nothing_stated ∙ ap (λ (journal : List Entry). queries_behind [] (segments journal) ++ []) (sym fresh.journal) };
+    all = (refl, record { settled = λ job there. absurd (omega (arith, there.from_one, there.added, ap jobs fresh.journal)); written = fresh.written ∙ ap jobs (sym fresh.journal) });
+  });
+}
+
+-- the source failed behind what was read
+pub through_unread : (reader : State) (desk : Desk) (left_before left_now left_after : Option (List ℕ)) (ended failed : Bool) → left_after ≡ left_now → ended ≡ false → failed ≡ true → Reached reader desk left_before left_now → ReadsThrough Unread left_before left_after ended failed desk
+through_unread reader desk left_before left_now left_after ended failed same unended failing reached = record {
+  bytes = reached.bytes;
+  gave = reached.gave ∙ ap (followed_by reached.bytes) (sym same);
+  through = rw unended (record {
+    ends = (failing, reached.up.right);
+    begun = record { left = []; queries = no_more (queries_in reached.bytes false) (queries_of desk) reached.up.queries };
+    all = (refl, reached.up.done);
+  });
 }
 
 pub unfailing : (before now : ℕ) → now ≡ before → nat_lt before now ≡ false
 unfailing before now same = grind (arith, nat_tests)
+
+pub failing : (before now : ℕ) → before < last_count → (before < now) ⊎ (now ≡ last_count) → nat_lt before now ≡ true
+failing before now below (inl rose) = lt-ltb before now rose
+failing before now below (inr last) = lt-ltb before now (omega (arith, last, below))
+
+-- a read that failed found no end
+pub still_unended : (before now : Bool) → now ≡ (before || false) → before ≡ false → now ≡ false
+still_unended before now is unended = is ∙ ap (λ b. b || false) unended
 
 -- a read that gave some bytes found no end
 pub goes_on : (before now : Bool) (count room : ℕ) → now ≡ (before || is_end_at count room) → before ≡ false → (count ≡ 0 → ⊥) → now ≡ false
@@ -50,73 +217,81 @@ ends_here before now count room is none some = is ∙ ap (λ b. before || b) (rw
 read_on : (before middle after : Option (List ℕ)) (bytes piece : List ℕ) → before ≡ followed_by bytes middle → middle ≡ followed_by piece after → before ≡ followed_by (bytes ++ piece) after
 read_on before middle after bytes piece first second = first ∙ ap (followed_by bytes) second ∙ followed_by_twice bytes piece after
 
-pub rest_showed : (trace : Bool) (result : Result Ending Failed) (reader : State) (clauses : List (List ℕ)) (jobs count : ℕ) (buffer : List ℕ) (left_before left_middle left_after : Option (List ℕ)) (ended failed : Bool) (before now after : Option (List ℕ)) →
-    ended ≡ true → failed ≡ false → count ≡ 0 → left_middle ≡ followed_by (take count buffer) left_after → Reached trace reader clauses jobs left_before left_middle before now →
-    IfOk result (λ ending. (bytes : List ℕ) (before : Option (List ℕ)) (failed : Bool) → failed ≡ false → IsCaughtUp trace reader clauses jobs bytes before now → Showed trace ending (record { bytes = bytes; ended = true; failed = failed }) before after) →
-    IfOk result (λ ending. ShowedAll trace ending left_before left_after ended failed before after)
-rest_showed trace (Ok ending) reader clauses jobs count buffer left_before left_middle left_after ended failed before now after end unfailed none gave reached showed = record {
+rest_gave : (count : ℕ) (buffer bytes : List ℕ) (left_before left_middle left_after : Option (List ℕ)) → count ≡ 0 → left_middle ≡ followed_by (take count buffer) left_after → left_before ≡ followed_by bytes left_middle → left_before ≡ followed_by bytes left_after
+rest_gave count buffer bytes left_before left_middle left_after none gave reached =
+    reached ∙ ap (followed_by bytes) (gave ∙ ap (λ n. followed_by (take n buffer) left_after) none ∙ followed_by_nothing left_after)
+
+pub rest_through : (result : Result Ending Failed) (reader : State) (old new : Desk) (count : ℕ) (buffer : List ℕ) (left_before left_middle left_after : Option (List ℕ)) (ended failed : Bool) →
+    ended ≡ true → failed ≡ false → count ≡ 0 → left_middle ≡ followed_by (take count buffer) left_after → Reached reader old left_before left_middle →
+    IfOk result (λ ending. (bytes : List ℕ) (failed : Bool) → failed ≡ false → IsCaughtUp reader old bytes → IsThrough ending (record { bytes = bytes; ended = true; failed = failed }) new) →
+    IfOk result (λ ending. ReadsThrough ending left_before left_after ended failed new)
+rest_through (Ok ending) reader old new count buffer left_before left_middle left_after ended failed end unfailed none gave reached through = record {
   bytes = reached.bytes;
-  gave = reached.gave ∙ ap (followed_by reached.bytes) (gave ∙ ap (λ n. followed_by (take n buffer) left_after) none ∙ followed_by_nothing left_after);
-  showed = rw end (showed reached.bytes before failed unfailed reached.up);
+  gave = rest_gave count buffer reached.bytes left_before left_middle left_after none gave reached.gave;
+  through = rw end (through reached.bytes failed unfailed reached.up);
 }
-rest_showed trace (Err e) reader clauses jobs count buffer left_before left_middle left_after ended failed before now after end unfailed none gave reached showed = tt
+rest_through (Err e) reader old new count buffer left_before left_middle left_after ended failed end unfailed none gave reached through = tt
 
-pub piece_broke : (trace : Bool) (reader : State) (clauses : List (List ℕ)) (jobs : ℕ) (piece : List ℕ) (left_before left_middle left_after : Option (List ℕ)) (ended : Bool) (before now after : Option (List ℕ)) →
-    ended ≡ false → left_middle ≡ followed_by piece left_after → Reached trace reader clauses jobs left_before left_middle before now →
-    ((bytes : List ℕ) (before : Option (List ℕ)) → IsCaughtUp trace reader clauses jobs bytes before now → TookFront trace 1 (jobs_in (bytes ++ piece) false) before after) → Broke trace left_before left_after ended before after
-piece_broke trace reader clauses jobs piece left_before left_middle left_after ended before now after unended gave reached front = record {
+pub rest_in_part : (result : Result Ending Failed) (reader : State) (old new : Desk) (count : ℕ) (buffer : List ℕ) (left_before left_middle left_after : Option (List ℕ)) (ended failed : Bool) →
+    ended ≡ true → count ≡ 0 → left_middle ≡ followed_by (take count buffer) left_after → Reached reader old left_before left_middle →
+    OnErr result ((bytes : List ℕ) (failed : Bool) → IsCaughtUp reader old bytes → IsBegun (record { bytes = bytes; ended = true; failed = failed }) new) →
+    OnErr result (ReadsInPart left_before left_after ended failed new)
+rest_in_part (Ok ending) reader old new count buffer left_before left_middle left_after ended failed end none gave reached begun = tt
+rest_in_part (Err e) reader old new count buffer left_before left_middle left_after ended failed end none gave reached begun = record {
+  bytes = reached.bytes;
+  gave = rest_gave count buffer reached.bytes left_before left_middle left_after none gave reached.gave;
+  begun = rw end (begun reached.bytes failed reached.up);
+}
+
+pub piece_broke : (reader : State) (old new : Desk) (piece : List ℕ) (left_before left_middle left_after : Option (List ℕ)) (ended failed : Bool) →
+    ended ≡ false → left_middle ≡ followed_by piece left_after → Reached reader old left_before left_middle →
+    ((bytes : List ℕ) (failed : Bool) → IsCaughtUp reader old bytes → IsBegun (record { bytes = bytes ++ piece; ended = false; failed = failed }) new) → ReadsInPart left_before left_after ended failed new
+piece_broke reader old new piece left_before left_middle left_after ended failed unended gave reached begun = record {
   bytes = reached.bytes ++ piece;
   gave = read_on left_before left_middle left_after reached.bytes piece reached.gave gave;
-  front = rw unended (front reached.bytes before reached.up);
+  begun = rw unended (begun reached.bytes failed reached.up);
 }
 
-pub piece_ended : (trace : Bool) (ending : Ending) (reader : State) (clauses : List (List ℕ)) (jobs : ℕ) (piece : List ℕ) (left_before left_middle left_after : Option (List ℕ)) (ended failed : Bool) (before now after : Option (List ℕ)) →
-    ended ≡ false → failed ≡ false → left_middle ≡ followed_by piece left_after → Reached trace reader clauses jobs left_before left_middle before now →
-    ((bytes : List ℕ) (before : Option (List ℕ)) (failed : Bool) → failed ≡ false → IsCaughtUp trace reader clauses jobs bytes before now → Showed trace ending (record { bytes = bytes ++ piece; ended = false; failed = failed }) before after) →
-    ShowedAll trace ending left_before left_after ended failed before after
-piece_ended trace ending reader clauses jobs piece left_before left_middle left_after ended failed before now after unended unfailed gave reached showed = record {
+pub piece_ended : (ending : Ending) (reader : State) (old new : Desk) (piece : List ℕ) (left_before left_middle left_after : Option (List ℕ)) (ended failed : Bool) →
+    ended ≡ false → failed ≡ false → left_middle ≡ followed_by piece left_after → Reached reader old left_before left_middle →
+    ((bytes : List ℕ) (failed : Bool) → failed ≡ false → IsCaughtUp reader old bytes → IsThrough ending (record { bytes = bytes ++ piece; ended = false; failed = failed }) new) → ReadsThrough ending left_before left_after ended failed new
+piece_ended ending reader old new piece left_before left_middle left_after ended failed unended unfailed gave reached through = record {
   bytes = reached.bytes ++ piece;
   gave = read_on left_before left_middle left_after reached.bytes piece reached.gave gave;
-  showed = rw unended (showed reached.bytes before failed unfailed reached.up);
+  through = rw unended (through reached.bytes failed unfailed reached.up);
 }
 
 -- the run goes on behind a piece
-pub piece_reached : (trace : Bool) (old new : State) (c0 c1 : List (List ℕ)) (j0 j1 : ℕ) (piece : List ℕ) (left_before left_middle left_after before now after : Option (List ℕ)) →
-    left_middle ≡ followed_by piece left_after → Reached trace old c0 j0 left_before left_middle before now →
-    ((bytes : List ℕ) (before : Option (List ℕ)) (failed : Bool) → failed ≡ false → IsCaughtUp trace old c0 j0 bytes before now → IsCaughtUp trace new c1 j1 (bytes ++ piece) before after) → Reached trace new c1 j1 left_before left_after before after
-piece_reached trace old new c0 c1 j0 j1 piece left_before left_middle left_after before now after gave reached up = record {
+pub piece_reached : (reader after : State) (old new : Desk) (piece : List ℕ) (left_before left_middle left_after : Option (List ℕ)) → left_middle ≡ followed_by piece left_after → Reached reader old left_before left_middle →
+    ((bytes : List ℕ) (failed : Bool) → failed ≡ false → IsCaughtUp reader old bytes → IsCaughtUp after new (bytes ++ piece)) → Reached after new left_before left_after
+piece_reached reader after old new piece left_before left_middle left_after gave reached up = record {
   bytes = reached.bytes ++ piece;
   gave = read_on left_before left_middle left_after reached.bytes piece reached.gave gave;
-  up = up reached.bytes before false refl reached.up;
+  up = up reached.bytes false refl reached.up;
 }
 
 -- each piece brings the text nearer to the most bytes that it may have
-pub nearer : (trace : Bool) (old new : State) (c0 c1 : List (List ℕ)) (j0 j1 count : ℕ) (buffer : List ℕ) (left_before left_middle before now after : Option (List ℕ)) →
-    Reached trace old c0 j0 left_before left_middle before now →
-    ((bytes : List ℕ) (before : Option (List ℕ)) (failed : Bool) → failed ≡ false → IsCaughtUp trace old c0 j0 bytes before now → IsCaughtUp trace new c1 j1 (bytes ++ take count buffer) before after) →
-    (count ≡ 0 → ⊥) → count ≤ length buffer → 4294967296 - new.bytes < 4294967296 - old.bytes
-nearer trace old new c0 c1 j0 j1 count buffer left_before left_middle before now after reached next some within =
-    let up = next reached.bytes before false refl reached.up in
-    let was = all_counted old reached.bytes reached.up.read reached.up.right in
-    let is = all_counted new (reached.bytes ++ take count buffer) up.read up.right in
+pub nearer : (reader after : State) (old new : Desk) (count : ℕ) (buffer : List ℕ) (left_before left_middle : Option (List ℕ)) → Reached reader old left_before left_middle →
+    ((bytes : List ℕ) (failed : Bool) → failed ≡ false → IsCaughtUp reader old bytes → IsCaughtUp after new (bytes ++ take count buffer)) →
+    (count ≡ 0 → ⊥) → count ≤ length buffer → 4294967296 - after.bytes < 4294967296 - reader.bytes
+nearer reader after old new count buffer left_before left_middle reached next some within =
+    let up = next reached.bytes false refl reached.up in
+    let was = all_counted reader reached.bytes reached.up.read reached.up.right in
+    let is = all_counted after (reached.bytes ++ take count buffer) up.read up.right in
     let positive : 0 < count = by count some in
     omega (arith, was.0, is.0, is.1, length-append reached.bytes (take count buffer), length-take-le count buffer within, positive)
   where
     by : (n : ℕ) → (n ≡ 0 → ⊥) → 0 < n
     by n some = grind (arith, nat_tests)
 
-pub failing : (before now : ℕ) → before < last_count → (before < now) ⊎ (now ≡ last_count) → nat_lt before now ≡ true
-failing before now below (inl rose) = lt-ltb before now rose
-failing before now below (inr last) = lt-ltb before now (omega (arith, last, below))
-
--- the source failed before anything was read
-pub showed_unstarted : (trace : Bool) (left_before left_after : Option (List ℕ)) (ended failed : Bool) (before : Option (List ℕ)) → left_after ≡ left_before → ended ≡ false → failed ≡ true → ShowedAll trace Unread left_before left_after ended failed before before
-showed_unstarted trace left_before left_after ended failed before same unended failing = record {
+-- memory ran out before anything was read
+pub through_unbuffered : (desk : Desk) (left : Option (List ℕ)) (ended failed : Bool) → ended ≡ false → IsFresh desk → ReadsThrough Exhausted left left ended failed desk
+through_unbuffered desk left ended failed unended fresh = record {
   bytes = [];
-  gave = sym same ∙ sym (followed_by_nothing left_after);
-  showed = rw unended (record {
-    blocks = [];
-    shown = (failing, nothing_wrong, subst (λ (list : List Numbered). AreBlocks trace 1 (jobs_after [] (unnumbered list)) []) (sym nothing_stated) refl);
-    taken = sym (appended_nothing before);
+  gave = sym (followed_by_nothing left);
+  through = rw unended (record {
+    ends = tt;
+    begun = record { left = []; queries = ap (λ (list : List Numbered). jobs_of (unnumbered list)) nothing_stated ∙ ap (λ (journal : List Entry). queries_behind [] (segments journal) ++ []) (sym fresh.journal) };
+    all = tt;
   });
 }

@@ -1,6 +1,6 @@
 -- Clauses on results.
 use Rattle.std.proofs.Common.{◌≡◌}
-use Rattle.std.specs.Prelude.{Result, Ok, Err, OnErr, MatchResult}
+use Rattle.std.specs.Prelude.{Result, Ok, Err, OnErr, OnOk, MatchResult}
 
 pub OnErr-always : {T E P : Type 0} (r : Result T E) → P → OnErr r P
 OnErr-always (Ok x) p = tt
@@ -10,3 +10,7 @@ OnErr-always (Err e) p = p
 pub match_err : {T E : Type 0} (r : Result T E) (fault : E) (P : T → Type 0) (Q : E → Type 0) → r ≡ Err fault → Q fault → MatchResult r P Q
 match_err (Ok x) fault P Q is q = cc
 match_err (Err e) fault P Q is q = let same : e ≡ fault = cc in rw same q
+
+pub on_ok_weaker_two : {T E P Q R : Type 0} (r : Result T E) → (P → Q → R) → OnOk r P → OnOk r Q → OnOk r R
+on_ok_weaker_two (Ok x) f p q = f p q
+on_ok_weaker_two (Err e) f p q = tt

@@ -1,7 +1,8 @@
-pub mod Asked
+pub mod Words
 pub mod Block
+pub mod Desk
 pub mod Output
 pub mod Stop
+pub mod Reading
 pub mod Written
-pub mod Solved
-pub mod Words
+pub mod Ended

@@ -1,7 +1,8 @@
--- What a run writes for the bytes that it read.
-use Rattle.std.specs.Prelude.{◌≡◌, ℕ, ◌+◌, ◌⊎◌, Bool, true, false, Option, Some, None, List, [], ◌∷◌, ◌++◌, map, length, take, codes}
+-- What a run writes for the bytes that it read, and the board that it gives back.
+use Rattle.std.specs.Prelude.{◌≡◌, ℕ, zero, suc, ◌≤◌, ◌⊎◌, ◌||◌, if◌then◌else◌, Bool, true, false, Option, Some, None, IsSome, List, [], ◌++◌, map, length, take, codes}
 use Rattle.std.specs.Fmt.{decimal}
 use Rattle.run_io.specs.Bytes.{followed_by, appended}
+use Rattle.trace_core.specs.Known.{item_at}
 use Rattle.icnf_text.specs.declared.faults.Reason.{Reason}
 use Rattle.icnf_text.specs.declared.faults.Reason.TheVariants as reason
 use Rattle.icnf_text.specs.declared.faults.Fault.{Fault}
@@ -9,22 +10,31 @@ use Rattle.icnf_text.specs.declared.statements.Statement.{Statement}
 use Rattle.icnf_text.specs.declared.statements.Numbered.{Numbered}
 use Rattle.icnf_text.specs.Judgement.{statements, wrong}
 use Rattle.icnf_text.specs.Jobs.{Job, jobs_of}
+use Rattle.entry_core.specs.declared.answers.Verdict.{Verdict}
+use Rattle.entry_core.specs.declared.answers.Verdict.TheVariants as verdict
+use Rattle.entry_core.specs.declared.answers.Outcome.{Outcome}
+use Rattle.entry_core.specs.declared.answers.Outcome.TheVariants as outcome
+use Rattle.entry_core.specs.declared.entries.Entry.{Entry}
+use Rattle.entry_core.specs.Journal.{jobs, clauses_of, cube_of}
+use Rattle.entry_core.specs.Settled.{settled, cancelled}
+use Rattle.entry_core.specs.Legal.{IsLegal}
+use Rattle.board_core.specs.State.{State}
+use Rattle.board_core.specs.Replies.{IsJob}
 use Rattle.tarmo_run.specs.declared.endings.Ending.{Ending}
 use Rattle.tarmo_run.specs.declared.endings.Ending.TheVariants.{Complete, Refused, Unread, Exhausted}
-use Rattle.tarmo_run.specs.Block.{IsBlockOf}
-
--- the blocks of jobs one after another, the first of which has this number
-abbrev pub AreBlocks : Bool → ℕ → List Job → List ℕ → Type 0
-AreBlocks trace number [] text = text ≡ []
-AreBlocks trace number (job ∷ jobs) text = (block : List ℕ) × (rest : List ℕ) × IsBlockOf trace number job.clauses job.cube block × AreBlocks trace (number + 1) jobs rest × (text ≡ block ++ rest)
+use Rattle.tarmo_run.specs.declared.endings.Lack.{Lack}
+use Rattle.tarmo_run.specs.declared.endings.Lack.TheVariants.{Memory, Decision}
+use Rattle.tarmo_run.specs.declared.words.Command.{Command}
+use Rattle.tarmo_run.specs.Words.{rules_of}
+use Rattle.tarmo_run.specs.Block.{AreBlocks}
 
 -- statements without their lines
 abbrev pub unnumbered : List Numbered → List Statement
 unnumbered list = map (λ (numbered : Numbered). numbered.statement) list
 
--- The jobs of a text, up to its first wrong place. Of a text that isn't ended only a front has come.
-abbrev pub jobs_in : List ℕ → Bool → List Job
-jobs_in bytes ended = jobs_of (unnumbered (statements bytes ended))
+-- The queries of a text, up to its first wrong place. Of a text that isn't ended only a front has come.
+abbrev pub queries_in : List ℕ → Bool → List Job
+queries_in bytes ended = jobs_of (unnumbered (statements bytes ended))
 
 -- what a source gave in a call, whether it is ended, and whether it failed
 pub record Reading : Type 0 where
@@ -32,11 +42,57 @@ pub record Reading : Type 0 where
   pub ended : Bool
   pub failed : Bool
 
-abbrev pub status_of : Ending → ℕ
-status_of (Complete jobs) = 0
-status_of (Refused fault) = 2
-status_of Unread = 3
-status_of Exhausted = 6
+-- The jobs of the journal put these queries, in order: the clauses that each job has, and its cube.
+pub record PutQueries (journal : List Entry) (queries : List Job) : Type 0 where
+  pub count : jobs journal ≡ length queries
+  pub each : (job : ℕ) → 1 ≤ job → job ≤ jobs journal → item_at queries job ≡ Some (record { clauses = clauses_of journal job; cube = cube_of journal job })
+
+-- the jobs of the journal put the first of these queries, and these are left
+pub record PutFirst (journal : List Entry) (queries left : List Job) : Type 0 where
+  pub done : List Job
+  pub whole : queries ≡ done ++ left
+  pub put : PutQueries journal done
+
+-- each job has its verdict
+abbrev pub AreSettled : State → Type 0
+AreSettled board = (job : ℕ) → IsJob board job → IsSome (settled board.rules board.journal job)
+
+abbrev pub is_starved : Option Verdict → Bool
+is_starved (Some verdict.Starved) = true
+is_starved _ = false
+
+-- given up or cancelled
+abbrev pub is_undecided : Option Verdict → Bool
+is_undecided (Some verdict.Spent) = true
+is_undecided (Some (verdict.Cancelled by)) = true
+is_undecided _ = false
+
+abbrev pub lacking : Lack → Option Verdict → Bool
+lacking Memory = is_starved
+lacking Decision = is_undecided
+
+-- the same of an outcome
+abbrev pub lacks_by : Lack → Outcome → Bool
+lacks_by Memory outcome.Starved = true
+lacks_by Memory _ = false
+lacks_by Decision outcome.Spent = true
+lacks_by Decision (outcome.Cancelled by) = true
+lacks_by Decision _ = false
+
+-- whether one of the jobs from 1 to the number has such a verdict
+abbrev pub is_one_so : (Option Verdict → Bool) → State → ℕ → Bool
+is_one_so kind board zero = false
+is_one_so kind board (suc job) = is_one_so kind board job || kind (settled board.rules board.journal (suc job))
+
+abbrev pub status_before : Ending → State → ℕ
+status_before (Complete count) board = if is_one_so is_undecided board (jobs board.journal) then 1 else 0
+status_before (Refused fault) board = 2
+status_before Unread board = 3
+status_before Exhausted board = 6
+
+-- The status of a run that wrote its whole output. Where a job found no memory it is 6.
+abbrev pub status_of : Ending → State → ℕ
+status_of ending board = if is_one_so is_starved board (jobs board.journal) then 6 else status_before ending board
 
 abbrev pub reason_text : Reason → List ℕ
 reason_text reason.Header = codes "header"
@@ -47,45 +103,88 @@ reason_text reason.TooMany = codes "too-many"
 reason_text reason.TooLong = codes "too-long"
 
 abbrev pub last_line_of : Ending → List ℕ
-last_line_of (Complete jobs) = codes "end " ++ decimal jobs ++ codes "\n"
+last_line_of (Complete count) = codes "end " ++ decimal count ++ codes "\n"
 last_line_of (Refused fault) = codes "refused " ++ decimal fault.line ++ codes " " ++ reason_text fault.reason ++ codes "\n"
 last_line_of Unread = codes "fault read\n"
 last_line_of Exhausted = codes "memory\n"
 
--- When a run ends so, and the blocks before its last line: those of all jobs before the end of the text, before its first
--- wrong place, or before the source failed; and those of the first so many jobs where memory ran out.
-abbrev pub AreShown : Bool → Ending → Reading → List ℕ → Type 0
-AreShown trace (Complete jobs) reading blocks = (reading.failed ≡ false) × (reading.ended ≡ true) × (wrong reading.bytes reading.ended ≡ None) × (jobs ≡ length (jobs_in reading.bytes reading.ended)) × AreBlocks trace 1 (jobs_in reading.bytes reading.ended) blocks
-AreShown trace (Refused fault) reading blocks = (reading.failed ≡ false) × (wrong reading.bytes reading.ended ≡ Some fault) × AreBlocks trace 1 (jobs_in reading.bytes reading.ended) blocks
-AreShown trace Unread reading blocks = (reading.failed ≡ true) × (wrong reading.bytes reading.ended ≡ None) × AreBlocks trace 1 (jobs_in reading.bytes reading.ended) blocks
-AreShown trace Exhausted reading blocks = (count : ℕ) × AreBlocks trace 1 (take count (jobs_in reading.bytes reading.ended)) blocks
+-- When a run ends so: the text was read to its end, it has a wrong place, or the source failed. Memory may run out at any time.
+abbrev pub IsEnding : Ending → Reading → Type 0
+IsEnding (Complete count) reading = (reading.failed ≡ false) × (reading.ended ≡ true) × (wrong reading.bytes reading.ended ≡ None) × (count ≡ length (queries_in reading.bytes reading.ended))
+IsEnding (Refused fault) reading = (reading.failed ≡ false) × (wrong reading.bytes reading.ended ≡ Some fault)
+IsEnding Unread reading = (reading.failed ≡ true) × (wrong reading.bytes reading.ended ≡ None)
+IsEnding Exhausted reading = Unit {0}
 
--- the whole output of a run that ends so
-pub record IsOutput (trace : Bool) (ending : Ending) (reading : Reading) (text : List ℕ) : Type 0 where
+-- where memory ran out, nothing; and else this
+abbrev pub UnlessExhausted : Ending → Type 0 → Type 0
+UnlessExhausted (Complete count) P = P
+UnlessExhausted (Refused fault) P = P
+UnlessExhausted Unread P = P
+UnlessExhausted Exhausted P = Unit {0}
+
+-- The whole output of a run that ends so: the blocks of the first jobs of the board, and of all of them unless memory ran out, and the last line.
+pub record IsOutput (trace : Bool) (ending : Ending) (reading : Reading) (board : State) (text : List ℕ) : Type 0 where
+  pub ends : IsEnding ending reading
+  pub count : ℕ
+  pub few : count ≤ jobs board.journal
+  pub all : UnlessExhausted ending (count ≡ jobs board.journal)
   pub blocks : List ℕ
-  pub shown : AreShown trace ending reading blocks
+  pub right : AreBlocks trace board count blocks
   pub written : text ≡ blocks ++ last_line_of ending
 
--- The sink took the whole output, and the status is that of the ending; or it took a front, and the status is 4.
-pub record IsRun (trace : Bool) (left_before left_after : Option (List ℕ)) (ended failed : Bool) (taken_before taken_after : Option (List ℕ)) (status : ℕ) : Type 0 where
-  pub bytes : List ℕ
-  pub gave : left_before ≡ followed_by bytes left_after
+-- The sink took the whole output. The board's jobs are the text's queries, and each is settled; where memory ran out they are its first queries. None was cancelled.
+pub record WroteAll (trace : Bool) (reading : Reading) (board : State) (before after : Option (List ℕ)) (status : ℕ) : Type 0 where
   pub ending : Ending
   pub text : List ℕ
-  pub output : IsOutput trace ending (record { bytes = bytes; ended = ended; failed = failed }) text
-  pub taken : ((status ≡ status_of ending) × (taken_after ≡ appended taken_before text)) ⊎ ((status ≡ 4) × (count : ℕ) × (taken_after ≡ appended taken_before (take count text)))
+  pub output : IsOutput trace ending reading board text
+  pub taken : after ≡ appended before text
+  pub told : status ≡ status_of ending board
+  pub left : List Job
+  pub put : PutFirst board.journal (queries_in reading.bytes reading.ended) left
+  pub all_put : UnlessExhausted ending (left ≡ [])
+  pub all_settled : UnlessExhausted ending (AreSettled board)
+  pub none_cancelled : cancelled board.journal ≡ []
+
+-- The sink failed: it took a front of an output. The board's jobs are the text's first queries, and each is settled, if only by being cancelled.
+pub record WroteFront (trace : Bool) (reading : Reading) (board : State) (before after : Option (List ℕ)) (status : ℕ) : Type 0 where
+  pub ending : Ending
+  pub text : List ℕ
+  pub output : IsOutput trace ending reading board text
+  pub size : ℕ
+  pub taken : after ≡ appended before (take size text)
+  pub told : status ≡ 4
+  pub left : List Job
+  pub put : PutFirst board.journal (queries_in reading.bytes reading.ended) left
+  pub all_settled : AreSettled board
+
+-- A run over a board, which it gives back: with the rules of the words and a legal journal.
+pub record IsRun (command : Command) (left_before left_after : Option (List ℕ)) (ended failed : Bool) (taken_before taken_after : Option (List ℕ)) (status : ℕ) (board : State) : Type 0 where
+  pub rules : board.rules ≡ rules_of command
+  pub legal : IsLegal board.rules board.journal
+  pub bytes : List ℕ
+  pub gave : left_before ≡ followed_by bytes left_after
+  pub wrote : WroteAll command.trace (record { bytes = bytes; ended = ended; failed = failed }) board taken_before taken_after status
+      ⊎ WroteFront command.trace (record { bytes = bytes; ended = ended; failed = failed }) board taken_before taken_after status
+
+-- A run without memory for a board reads nothing, and writes `memory`, or a front of it where the sink fails.
+pub record HadNoBoard (left_before left_after taken_before taken_after : Option (List ℕ)) (status : ℕ) : Type 0 where
+  pub unread : left_after ≡ left_before
+  pub wrote : ((status ≡ 6) × (taken_after ≡ appended taken_before (last_line_of Exhausted)))
+      ⊎ ((status ≡ 4) × (size : ℕ) × (taken_after ≡ appended taken_before (take size (last_line_of Exhausted))))
 
 -- how a run over this whole text ends, where nothing fails and memory is there
 abbrev pub ending_by : Option Fault → ℕ → Ending
-ending_by None jobs = Complete jobs
-ending_by (Some fault) jobs = Refused fault
+ending_by None count = Complete count
+ending_by (Some fault) count = Refused fault
 
 abbrev pub ending_of : List ℕ → Ending
-ending_of text = ending_by (wrong text true) (length (jobs_in text true))
+ending_of text = ending_by (wrong text true) (length (queries_in text true))
 
--- Every job of the text has its block, up to the first wrong place, and the text decides the last line and the status.
-pub record IsAnswered (trace : Bool) (text : List ℕ) (taken_before taken_after : Option (List ℕ)) (status : ℕ) : Type 0 where
+-- The text decides the last line, and the board's jobs: every query up to its first wrong place is a job, which is settled and has its block.
+pub record IsAnswered (trace : Bool) (text : List ℕ) (taken_before taken_after : Option (List ℕ)) (status : ℕ) (board : State) : Type 0 where
+  pub put : PutQueries board.journal (queries_in text true)
+  pub all_settled : AreSettled board
   pub blocks : List ℕ
-  pub right : AreBlocks trace 1 (jobs_in text true) blocks
+  pub right : AreBlocks trace board (jobs board.journal) blocks
   pub taken : taken_after ≡ appended taken_before (blocks ++ last_line_of (ending_of text))
-  pub told : status ≡ status_of (ending_of text)
+  pub told : status ≡ status_of (ending_of text) board

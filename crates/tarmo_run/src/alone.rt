@@ -1,16 +1,28 @@
 //! The run on the caller's own thread.
 
-ghost use Rattle.std.specs.Prelude.{◌≡◌, ◌≢◌, ◌<◌, ◌≤◌, ◌⊎◌, ◌↔◌, ℕ, List, Some, None, true, false, nat_lt, map, string_bytes, IfOk, OnErr};
-ghost use Rattle.run_io.specs.Bytes.{IsEmptyWhereTold};
+ghost use Rattle.std.specs.Prelude.{◌≡◌, ◌≢◌, ◌<◌, ◌≤◌, ◌⊎◌, ◌↔◌, ◌^◌, ℕ, List, [], Some, None, true, false, nat_lt, map, take, string_bytes, IfOk, IfSome, OnErr, MatchOption};
+ghost use Rattle.sat_base.specs.Lit.{variables};
+ghost use Rattle.run_io.specs.Bytes.{IsEmptyWhereTold, appended};
 ghost use Rattle.run_io.specs.Fault.{HasCause, last_count};
-ghost use Rattle.tarmo_run.specs.Output.{IsAnswered, IsRun};
-ghost use Rattle.tarmo_run.specs.Words.{accepted};
-ghost use Rattle.tarmo_run.specs.Written.{Finished, FinishedInPart};
+ghost use Rattle.entry_core.specs.declared.answers.Verdict.{Verdict};
+ghost use Rattle.entry_core.specs.declared.answers.Verdict.TheVariants as verdict;
+ghost use Rattle.entry_core.specs.Causes.{HasCause as HasItsCause};
+ghost use Rattle.entry_core.specs.Journal.{clauses_of, cube_of};
+ghost use Rattle.entry_core.specs.Legal.{IsLegal};
+ghost use Rattle.entry_core.specs.Settled.{settled};
+ghost use Rattle.tarmo_run.specs.Desk.{IsFresh, IsReady};
+ghost use Rattle.tarmo_run.specs.Output.{HadNoBoard, IsAnswered, IsRun, last_line_of};
+ghost use Rattle.tarmo_run.specs.Words.{accepted, rules_of};
+ghost use Rattle.tarmo_run.specs.Ended.{Finished, FinishedInPart};
+ghost use Rattle.tarmo_run.specs.declared.endings.Ending.TheVariants as endings;
 ghost use Rattle.tarmo_run.specs.declared.words.Command.{Command};
 
-use crate::endings::Ending;
+use crate::desk::Desk;
+use crate::endings::{Ending, NO_MEMORY, close_without_memory};
 use crate::pieces::show_blocks;
 use crate::words::{Command, read_words};
+use board_core::Board;
+use entry_core::{large_budgets_answer, verdicts_have_causes};
 use run_io::{Failed, Sink, Source};
 use std::alloc::Global;
 
@@ -19,48 +31,118 @@ pub const WORDS_REFUSED: u8 = 5;
 
 const SINK_FAILED: u8 = 4;
 
+/// What a run gives back.
+#[derive(Debug, Drop)]
+pub struct Finish {
+    /// The first of these that stands: 5 where the words aren't accepted; 4 where the sink failed; 6 where memory ran out,
+    /// for the run or for a job; 3 where the source failed; 2 where the text has a wrong place; 1 where a job was given up;
+    /// 0 otherwise.
+    pub status: u8,
+    /// The board with the text's jobs and their verdicts. None where the words aren't accepted, or where there was no
+    /// memory for a board.
+    pub board: Option<Board>,
+}
+
 /// The whole of `tarmo` on the caller's own thread, but for making the real things: reads the text that the
-/// source gives in pieces of at most 65,536 bytes, writes the blocks of the jobs that a piece ended before it
-/// reads on, and answers the status.
+/// source gives in pieces of at most 65,536 bytes, adds the jobs that a piece ended to a board, makes attempts at them until each
+/// is settled, writes their blocks before it reads on, and gives back the status and the board.
 ///
-/// There may be one word, `--trace`: then each refuted part's block has its trace.
+/// The words are options in any order, each once at most: `--trace`, and then each refuted part's block has its trace;
+/// `--conflicts` and as the next word how many clauses an attempt may learn, 1 to 18446744073709551615, which is the default;
+/// `--attempts` and how many attempts a job has, 1 to 64, by default 1.
 ///
 /// It stops reading at the end of the text, at its first wrong place, where the source fails, and where memory
-/// runs out; a text without end has a wrong place. The first status of this order that stands: 5 where the words
-/// aren't accepted, and then nothing is read or written; 4 where the sink failed; 6 where memory ran out; 3 where the source
-/// failed; 2 where the text has a wrong place; 0 otherwise. Each block and the last line are handed to the sink
+/// runs out; a text without end has a wrong place. Each block and the last line are handed to the sink
 /// as pieces of their own, and one flush follows the last line; after a failed write or flush nothing more is
-/// written.
+/// written, and jobs that aren't settled are cancelled.
 pub fn run_alone<S: Source, O: Sink>(
     alloc: Global,
     words: &[String],
     source: &mut S,
     out: &mut O,
-) -> u8
+) -> Finish
     requires source_faults { S.faults source.old < last_count }
     requires sink_faults { O.faults out.old < last_count }
     requires unread { S.ended source.old ≡ false }
 
-    ensures words { (result ≡ 5) ↔ (accepted (map string_bytes words.now) ≡ None) }
-    ensures untouched { accepted (map string_bytes words.now) ≡ None → (source.new ≡ source.old) × (out.new ≡ out.old) }
-    ensures run { (command : Command) → accepted (map string_bytes words.now) ≡ Some command → IsRun command.trace (S.left source.old) (S.left source.new) (S.ended source.new)
-        (nat_lt (S.faults source.old) (S.faults source.new)) (O.taken out.old) (O.taken out.new) result }
+    ensures words { (result.status ≡ 5) ↔ (accepted (map string_bytes words.now) ≡ None) }
+    ensures untouched { accepted (map string_bytes words.now) ≡ None → (source.new ≡ source.old) × (out.new ≡ out.old) × (result.board ≡ None) }
+    ensures run { (command : Command) → accepted (map string_bytes words.now) ≡ Some command → MatchOption result.board
+        (HadNoBoard (S.left source.old) (S.left source.new) (O.taken out.old) (O.taken out.new) result.status)
+        (IsRun command (S.left source.old) (S.left source.new) (S.ended source.new) (nat_lt (S.faults source.old) (S.faults source.new)) (O.taken out.old) (O.taken out.new) result.status) }
+    ensures causes { IfSome result.board (λ board. (job : ℕ) (given : Verdict) → settled board.rules board.journal job ≡ Some given → HasItsCause board.rules board.journal job given) }
+    ensures budget { IfSome result.board (λ board. (job : ℕ) → settled board.rules board.journal job ≡ Some verdict.Spent → board.rules.conflicts ≤ 3 ^ variables (clauses_of board.journal job) (cube_of board.journal job)) }
     ensures whole { S.ended source.new ≡ true → IsEmptyWhereTold (S.left source.new) }
 
     ensures complete { (command : Command) (text : List ℕ) → accepted (map string_bytes words.now) ≡ Some command →
         S.left source.old ≡ Some text → S.faults source.new ≡ S.faults source.old → O.faults out.new ≡ O.faults out.old →
-        IsAnswered command.trace text (O.taken out.old) (O.taken out.new) result ⊎ (result ≡ 6) }
+        MatchOption result.board (result.status ≡ 6) (λ board. IsAnswered command.trace text (O.taken out.old) (O.taken out.new) result.status board ⊎ (result.status ≡ 6)) }
 
-    ensures sink { (result ≡ 4) ↔ (O.faults out.old < O.faults out.new) }
-    ensures source { (result ≡ 3) ↔ ((S.faults source.old < S.faults source.new) × (result ≢ 4) × (result ≢ 6)) }
+    ensures sink { (result.status ≡ 4) ↔ (O.faults out.old < O.faults out.new) }
+    ensures source { (result.status ≡ 3) ↔ ((S.faults source.old < S.faults source.new) × (result.status ≢ 4) × (result.status ≢ 6)) }
     ensures counts { (S.faults source.old ≤ S.faults source.new) × (O.faults out.old ≤ O.faults out.new) }
 {
+    verdicts_have_causes();
+    large_budgets_answer();
     let Some(command) = read_words(words) else {
-        return WORDS_REFUSED;
+        return Finish {
+            status: WORDS_REFUSED,
+            board: None,
+        };
     };
-    match solve(alloc, command, source, out) {
-        Ok(ending) => ending.status(),
+    match Board::new(alloc, command.rules()) {
+        Ok(board) => run_over(alloc, command, board, source, out),
+        Err(_) => Finish {
+            status: show_want_of_memory(out),
+            board: None,
+        },
+    }
+}
+
+// A run without memory for a board: says so, and answers the status.
+fn show_want_of_memory<O: Sink>(out: &mut O) -> u8
+    requires sink_faults { O.faults out.old < last_count }
+    ensures status { (result ≡ 6) ⊎ (result ≡ 4) }
+    ensures whole { result ≡ 6 → O.taken out.new ≡ appended (O.taken out.old) (last_line_of endings.Exhausted) }
+    ensures front { result ≡ 4 → (size : ℕ) × (O.taken out.new ≡ appended (O.taken out.old) (take size (last_line_of endings.Exhausted))) }
+    ensures sink { (result ≡ 4) ↔ (O.faults out.old < O.faults out.new) }
+    ensures counts { O.faults out.old ≤ O.faults out.new }
+{
+    match close_without_memory(out) {
+        Ok(_) => NO_MEMORY,
         Err(Failed) => SINK_FAILED,
+    }
+}
+
+// A run over an empty board.
+fn run_over<S: Source, O: Sink>(
+    alloc: Global,
+    command: Command,
+    board: Board,
+    source: &mut S,
+    out: &mut O,
+) -> Finish
+    requires rules { board.rules ≡ rules_of command }
+    requires empty { board.journal ≡ [] }
+    requires source_faults { S.faults source.old < last_count }
+    requires sink_faults { O.faults out.old < last_count }
+    requires unread { S.ended source.old ≡ false }
+    ensures run { MatchOption result.board ⊥
+        (IsRun command (S.left source.old) (S.left source.new) (S.ended source.new) (nat_lt (S.faults source.old) (S.faults source.new)) (O.taken out.old) (O.taken out.new) result.status) }
+    ensures whole { S.ended source.new ≡ true → IsEmptyWhereTold (S.left source.new) }
+    ensures sink { (result.status ≡ 4) ↔ (O.faults out.old < O.faults out.new) }
+    ensures counts { (S.faults source.old ≤ S.faults source.new) × (O.faults out.old ≤ O.faults out.new) }
+{
+    let mut desk = Desk::new(alloc, command, board);
+    match solve(alloc, command, &mut desk, source, out) {
+        Ok(ending) => {
+            let status = ending.status(&desk.board);
+            desk.finish(status)
+        }
+        Err(Failed) => {
+            desk.give_up(command);
+            desk.finish(SINK_FAILED)
+        }
     }
 }
 
@@ -68,19 +150,38 @@ pub fn run_alone<S: Source, O: Sink>(
 fn solve<S: Source, O: Sink>(
     alloc: Global,
     command: Command,
+    desk: &mut Desk,
     source: &mut S,
     out: &mut O,
 ) -> Result<Ending, Failed>
+    requires fresh { IsFresh desk.old }
+    requires ready { IsReady command desk.old }
     requires source_faults { S.faults source.old < last_count }
     requires unread { S.ended source.old ≡ false }
+    ensures rules { desk.new.board.rules ≡ rules_of command }
     ensures finished { IfOk result (λ ending. Finished command.trace ending (S.left source.old) (S.left source.new) (S.ended source.new)
-        (nat_lt (S.faults source.old) (S.faults source.new)) (O.taken out.old) (O.taken out.new)) }
+        (nat_lt (S.faults source.old) (S.faults source.new)) desk.new (O.taken out.old) (O.taken out.new)) }
     ensures front { OnErr result (FinishedInPart command.trace (S.left source.old) (S.left source.new) (S.ended source.new)
-        (nat_lt (S.faults source.old) (S.faults source.new)) (O.taken out.old) (O.taken out.new)) }
+        (nat_lt (S.faults source.old) (S.faults source.new)) desk.new (O.taken out.old) (O.taken out.new)) }
     ensures whole { S.ended source.new ≡ true → IsEmptyWhereTold (S.left source.new) }
     ensures later { S.faults source.old ≤ S.faults source.new }
     ensures cause { HasCause (O.faults out.old) (O.faults out.new) result }
 {
-    let ending = show_blocks(alloc, command, source, out)?;
+    let ending = show_blocks(alloc, command, desk, source, out)?;
+    desk.close(command);
     ending.close(alloc, out)
+}
+
+impl Desk {
+    fn finish(self, status: u8) -> Finish
+        ensures parts { result ≡ record { status = status; board = Some self.board } }
+        ensures legal { IsLegal self.board.rules self.board.journal }
+    {
+        let Desk { board, .. } = self;
+        let _ = board.journal();
+        Finish {
+            status,
+            board: Some(board),
+        }
+    }
 }

@@ -1,13 +1,18 @@
 //! How a run ends.
 
-ghost use Rattle.std.specs.Prelude.{◌≡◌, ◌++◌, ◌⊎◌, ℕ, take, IfOk, OnErr, OnOk, MatchResult, codes};
+ghost use Rattle.std.specs.Prelude.{◌≡◌, ◌++◌, ◌⊎◌, ℕ, if◌then◌else◌, take, IfOk, OnErr, OnOk, MatchResult, codes};
 ghost use Rattle.std.specs.Fmt.{decimal};
+ghost use Rattle.entry_core.specs.Journal.{jobs};
+ghost use Rattle.entry_core.specs.Settled.{settled};
+ghost use Rattle.board_core.specs.Replies.{IsJob};
 ghost use Rattle.run_io.specs.Bytes.{appended};
 ghost use Rattle.run_io.specs.Fault.{HasCause};
-ghost use Rattle.tarmo_run.specs.Output.{last_line_of, reason_text, status_of};
+ghost use Rattle.tarmo_run.specs.Output.{is_one_so, is_undecided, lacking, lacks_by, last_line_of, reason_text, status_of};
 ghost use Rattle.tarmo_run.specs.Written.{TookFrontOfLine};
 ghost use Rattle.tarmo_run.specs.declared.endings.Ending.TheVariants as endings;
 
+use board_core::Board;
+use entry_core::Outcome;
 use icnf_text::{Fault, Reason};
 use line_tokens::print_number;
 use run_io::{Failed, Sink, write_all};
@@ -15,6 +20,9 @@ use std::alloc::{AllocError, Global};
 
 /// The status of a run in which memory ran out.
 pub const NO_MEMORY: u8 = 6;
+
+/// The status of a run that gave up a job.
+pub const UNDECIDED: u8 = 1;
 
 /// How a run ends whose sink takes all that it writes.
 #[derive(Clone, Copy, Debug, PartialEq, Eq)]
@@ -30,12 +38,16 @@ pub enum Ending {
 }
 
 impl Ending {
-    /// The status of such a run: 0, 2, 3 or 6.
-    pub(crate) fn status(self) -> u8
-        ensures { result ≡ status_of self }
+    /// The status of such a run over the board: 6 where a job found no memory; else that of the ending, which is 1 instead of
+    /// 0 where a job was given up.
+    pub(crate) fn status(self, board: &Board) -> u8
+        ensures { result ≡ status_of self board.now }
     {
+        if is_one_without(board, Lack::Memory) {
+            return NO_MEMORY;
+        }
         match self {
-            Ending::Complete(_) => 0,
+            Ending::Complete(_) => complete_status(board),
             Ending::Refused(_) => 2,
             Ending::Unread => 3,
             Ending::Exhausted => NO_MEMORY,
@@ -83,7 +95,64 @@ impl Ending {
     }
 }
 
-fn close_without_memory<O: Sink>(out: &mut O) -> Result<Ending, Failed>
+// The status of a run that answered its whole text.
+fn complete_status(board: &Board) -> u8
+    ensures { result ≡ (if is_one_so is_undecided board.now (jobs board.now.journal) then 1 else 0) }
+{
+    if is_one_without(board, Lack::Decision) {
+        UNDECIDED
+    } else {
+        0
+    }
+}
+
+/// What a job may be left without.
+#[derive(Clone, Copy, Debug, PartialEq, Eq)]
+pub(crate) enum Lack {
+    /// Memory: an attempt at the job found none.
+    Memory,
+    /// An answer: the job was given up or cancelled.
+    Decision,
+}
+
+impl Lack {
+    fn is_in(self, outcome: Outcome) -> bool
+        ensures { result ≡ lacks_by self outcome }
+    {
+        match self {
+            Lack::Memory => matches!(outcome, Outcome::Starved),
+            Lack::Decision => matches!(outcome, Outcome::Spent | Outcome::Cancelled(_)),
+        }
+    }
+}
+
+// Whether one of the jobs was left without that.
+fn is_one_without(board: &Board, lack: Lack) -> bool
+    ensures { result ≡ is_one_so (lacking lack) board.now (jobs board.now.journal) }
+{
+    let jobs = board.jobs();
+    let mut job = 0;
+    while job < jobs {
+        job += 1;
+        if is_without(board, job, lack) {
+            return true;
+        }
+    }
+    false
+}
+
+fn is_without(board: &Board, job: u32, lack: Lack) -> bool
+    requires { IsJob board.now job }
+    ensures { result ≡ lacking lack (settled board.now.rules board.now.journal job) }
+{
+    match board.outcome(job) {
+        Ok(outcome) => lack.is_in(outcome),
+        Err(_) => false,
+    }
+}
+
+/// Writes `memory` as the last line, and flushes.
+pub(crate) fn close_without_memory<O: Sink>(out: &mut O) -> Result<Ending, Failed>
     ensures told { IfOk result (λ told. (told ≡ endings.Exhausted)
         × (O.taken out.new ≡ appended (O.taken out.old) (last_line_of told))) }
     ensures front { OnErr result ((size : ℕ) × (O.taken out.new ≡ appended (O.taken out.old) (take size (last_line_of endings.Exhausted)))) }

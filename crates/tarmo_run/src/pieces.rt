@@ -1,17 +1,17 @@
 //! A text that comes in pieces, and is answered as it comes.
 
-ghost use Rattle.std.specs.Prelude.{◌≡◌, ◌<◌, ◌≤◌, ◌+◌, ◌++◌, ℕ, List, Bool, Option, None, true, false, nat_lt, length, IfOk, OnErr, MatchOption};
+ghost use Rattle.std.specs.Prelude.{◌≡◌, ◌<◌, ◌≤◌, ◌++◌, ℕ, List, Bool, None, false, true, nat_lt, length, IfOk, OnErr, OnOk, MatchOption};
 ghost use Rattle.run_io.specs.Bytes.{IsEmptyWhereTold};
 ghost use Rattle.run_io.specs.Fault.{HasCause, last_count};
-ghost use Rattle.icnf_text.specs.Jobs.{jobs_after};
-ghost use Rattle.tarmo_run.specs.Asked.{IsReady, clauses_read, jobs_read};
-ghost use Rattle.tarmo_run.specs.Output.{jobs_in, unnumbered};
-ghost use Rattle.tarmo_run.specs.Written.{Answered, Broke, IsCaughtUp, Showed, ShowedAll, StoppedBy, TookFront};
+ghost use Rattle.tarmo_run.specs.Desk.{HasEntriesMore, IsDone, IsFresh, IsReady};
+ghost use Rattle.tarmo_run.specs.Reading.{Adds, AddsFirst, IsBegun, IsCaughtUp, IsThrough, ReadsInPart, ReadsThrough, StopsBy, ending_behind};
+ghost use Rattle.tarmo_run.specs.Written.{Breaks, Writes};
 
+use crate::desk::Desk;
 use crate::endings::Ending;
-use crate::queries::{Halt, Queries};
 use crate::words::Command;
-use icnf_text::{Fed, Reader};
+use crate::writing::Halt;
+use icnf_text::{Fault, Fed, Reader};
 use run_io::{Failed, Sink, Source};
 use std::alloc::{AllocError, Global};
 
@@ -25,20 +25,27 @@ fn buffer(alloc: Global, len: usize) -> Result<Vec<u8>, AllocError>
     vec![in alloc; 0u8; len]
 }
 
-/// Starts the source, reads its text piece by piece, and writes the block of each job that has ended before
+/// Starts the source, reads its text piece by piece, settles the jobs that have ended, and writes their blocks before
 /// it reads on. It stops at the end of the text, at its first wrong place, where the source fails, or where
 /// memory runs out.
 pub(crate) fn show_blocks<S: Source, O: Sink>(
     alloc: Global,
     command: Command,
+    desk: &mut Desk,
     source: &mut S,
     out: &mut O,
 ) -> Result<Ending, Failed>
+    requires fresh { IsFresh desk.old }
+    requires ready { IsReady command desk.old }
     requires source_faults { S.faults source.old < last_count }
     requires unread { S.ended source.old ≡ false }
-    ensures showed { IfOk result (λ ending. ShowedAll command.trace ending (S.left source.old) (S.left source.new) (S.ended source.new)
-        (nat_lt (S.faults source.old) (S.faults source.new)) (O.taken out.old) (O.taken out.new)) }
-    ensures broke { OnErr result (Broke command.trace (S.left source.old) (S.left source.new) (S.ended source.new) (O.taken out.old) (O.taken out.new)) }
+    ensures ready { IsReady command desk.new }
+    ensures through { IfOk result (λ ending. ReadsThrough ending (S.left source.old) (S.left source.new) (S.ended source.new)
+        (nat_lt (S.faults source.old) (S.faults source.new)) desk.new) }
+    ensures in_part { OnErr result (ReadsInPart (S.left source.old) (S.left source.new) (S.ended source.new)
+        (nat_lt (S.faults source.old) (S.faults source.new)) desk.new) }
+    ensures writes { OnOk result (Writes command.trace desk.old desk.new (O.taken out.old) (O.taken out.new)) }
+    ensures breaks { OnErr result (Breaks command.trace desk.old desk.new (O.taken out.old) (O.taken out.new)) }
     ensures whole { S.ended source.new ≡ true → IsEmptyWhereTold (S.left source.new) }
     ensures later { S.faults source.old ≤ S.faults source.new }
     ensures cause { HasCause (O.faults out.old) (O.faults out.new) result }
@@ -47,7 +54,7 @@ pub(crate) fn show_blocks<S: Source, O: Sink>(
         return Ok(Ending::Exhausted);
     };
     match source.start(None) {
-        Ok(()) => answer_pieces(alloc, command, &mut buffer, source, out),
+        Ok(()) => answer_pieces(alloc, command, desk, &mut buffer, source, out),
         Err(Failed) => Ok(Ending::Unread),
     }
 }
@@ -56,30 +63,36 @@ pub(crate) fn show_blocks<S: Source, O: Sink>(
 fn answer_pieces<S: Source, O: Sink>(
     alloc: Global,
     command: Command,
+    desk: &mut Desk,
     buffer: &mut [u8],
     source: &mut S,
     out: &mut O,
 ) -> Result<Ending, Failed>
+    requires fresh { IsFresh desk.old }
+    requires ready { IsReady command desk.old }
     requires room { 0 < length buffer.old }
     requires source_faults { S.faults source.old < last_count }
     requires unread { S.ended source.old ≡ false }
-    ensures showed { IfOk result (λ ending. ShowedAll command.trace ending (S.left source.old) (S.left source.new) (S.ended source.new)
-        (nat_lt (S.faults source.old) (S.faults source.new)) (O.taken out.old) (O.taken out.new)) }
-    ensures broke { OnErr result (Broke command.trace (S.left source.old) (S.left source.new) (S.ended source.new) (O.taken out.old) (O.taken out.new)) }
+    ensures ready { IsReady command desk.new }
+    ensures through { IfOk result (λ ending. ReadsThrough ending (S.left source.old) (S.left source.new) (S.ended source.new)
+        (nat_lt (S.faults source.old) (S.faults source.new)) desk.new) }
+    ensures in_part { OnErr result (ReadsInPart (S.left source.old) (S.left source.new) (S.ended source.new)
+        (nat_lt (S.faults source.old) (S.faults source.new)) desk.new) }
+    ensures writes { OnOk result (Writes command.trace desk.old desk.new (O.taken out.old) (O.taken out.new)) }
+    ensures breaks { OnErr result (Breaks command.trace desk.old desk.new (O.taken out.old) (O.taken out.new)) }
     ensures whole { S.ended source.new ≡ true → IsEmptyWhereTold (S.left source.new) }
     ensures later { S.faults source.old ≤ S.faults source.new }
     ensures cause { HasCause (O.faults out.old) (O.faults out.new) result }
 {
     let mut reader = Reader::new(alloc);
-    let mut queries = Queries::new(alloc);
     loop {
         let Ok(count) = source.read(buffer) else {
             return Ok(Ending::Unread);
         };
         if count == 0 {
-            return answer_rest(reader, &mut queries, command, out);
+            return answer_rest(reader, desk, command, out);
         }
-        match answer_piece(&mut reader, &mut queries, command, &buffer[..count], out)? {
+        match answer_piece(&mut reader, desk, command, &buffer[..count], out)? {
             Some(ending) => return Ok(ending),
             None => {}
         }
@@ -89,25 +102,25 @@ fn answer_pieces<S: Source, O: Sink>(
 // Answers the jobs that a piece ended. The run ends there at a wrong place, or where memory runs out.
 fn answer_piece<O: Sink>(
     reader: &mut Reader,
-    queries: &mut Queries,
+    desk: &mut Desk,
     command: Command,
     piece: &[u8],
     out: &mut O,
 ) -> Result<Option<Ending>, Failed>
-    requires ready { IsReady queries.old }
-    ensures showed { IfOk result (λ stop. (bytes : List ℕ) (before : Option (List ℕ)) (failed : Bool) → failed ≡ false →
-        IsCaughtUp command.trace reader.old (clauses_read queries.old) (jobs_read queries.old) bytes before (O.taken out.old) →
+    requires ready { IsReady command desk.old }
+    ensures ready { IsReady command desk.new }
+    ensures through { IfOk result (λ stop. (bytes : List ℕ) (failed : Bool) → failed ≡ false → IsCaughtUp reader.old desk.old bytes →
         MatchOption stop
-        (IsCaughtUp command.trace reader.new (clauses_read queries.new) (jobs_read queries.new) (bytes ++ piece.now) before (O.taken out.new))
-        (λ ending. Showed command.trace ending (record { bytes = bytes ++ piece.now; ended = false; failed = failed }) before (O.taken out.new))) }
-    ensures ready { IfOk result (λ stop. stop ≡ None → IsReady queries.new) }
-    ensures broke { OnErr result ((bytes : List ℕ) (before : Option (List ℕ)) →
-        IsCaughtUp command.trace reader.old (clauses_read queries.old) (jobs_read queries.old) bytes before (O.taken out.old) →
-        TookFront command.trace 1 (jobs_in (bytes ++ piece.now) false) before (O.taken out.new)) }
+        (IsCaughtUp reader.new desk.new (bytes ++ piece.now))
+        (λ ending. IsThrough ending (record { bytes = bytes ++ piece.now; ended = false; failed = failed }) desk.new)) }
+    ensures in_part { OnErr result ((bytes : List ℕ) (failed : Bool) → IsCaughtUp reader.old desk.old bytes →
+        IsBegun (record { bytes = bytes ++ piece.now; ended = false; failed = failed }) desk.new) }
+    ensures writes { OnOk result (Writes command.trace desk.old desk.new (O.taken out.old) (O.taken out.new)) }
+    ensures breaks { OnErr result (Breaks command.trace desk.old desk.new (O.taken out.old) (O.taken out.new)) }
     ensures cause { HasCause (O.faults out.old) (O.faults out.new) result }
 {
     match reader.feed(piece) {
-        Ok(fed) => answer_fed(queries, command, fed, out),
+        Ok(fed) => answer_fed(desk, command, fed, out),
         Err(_) => Ok(Some(Ending::Exhausted)),
     }
 }
@@ -115,23 +128,24 @@ fn answer_piece<O: Sink>(
 // Ends the text, and answers the jobs that its end ended.
 fn answer_rest<O: Sink>(
     reader: Reader,
-    queries: &mut Queries,
+    desk: &mut Desk,
     command: Command,
     out: &mut O,
 ) -> Result<Ending, Failed>
-    requires ready { IsReady queries.old }
-    ensures showed { IfOk result (λ ending. (bytes : List ℕ) (before : Option (List ℕ)) (failed : Bool) → failed ≡ false →
-        IsCaughtUp command.trace reader (clauses_read queries.old) (jobs_read queries.old) bytes before (O.taken out.old) →
-        Showed command.trace ending (record { bytes = bytes; ended = true; failed = failed }) before (O.taken out.new)) }
-    ensures broke { OnErr result ((bytes : List ℕ) (before : Option (List ℕ)) →
-        IsCaughtUp command.trace reader (clauses_read queries.old) (jobs_read queries.old) bytes before (O.taken out.old) →
-        TookFront command.trace 1 (jobs_in bytes true) before (O.taken out.new)) }
+    requires ready { IsReady command desk.old }
+    ensures ready { IsReady command desk.new }
+    ensures through { IfOk result (λ ending. (bytes : List ℕ) (failed : Bool) → failed ≡ false → IsCaughtUp reader desk.old bytes →
+        IsThrough ending (record { bytes = bytes; ended = true; failed = failed }) desk.new) }
+    ensures in_part { OnErr result ((bytes : List ℕ) (failed : Bool) → IsCaughtUp reader desk.old bytes →
+        IsBegun (record { bytes = bytes; ended = true; failed = failed }) desk.new) }
+    ensures writes { OnOk result (Writes command.trace desk.old desk.new (O.taken out.old) (O.taken out.new)) }
+    ensures breaks { OnErr result (Breaks command.trace desk.old desk.new (O.taken out.old) (O.taken out.new)) }
     ensures cause { HasCause (O.faults out.old) (O.faults out.new) result }
 {
     match reader.finish() {
-        Ok(fed) => match answer_fed(queries, command, fed, out)? {
+        Ok(fed) => match answer_fed(desk, command, fed, out)? {
             Some(ending) => Ok(ending),
-            None => Ok(Ending::Complete(queries.jobs() as u64)),
+            None => Ok(Ending::Complete(desk.board.jobs() as u64)),
         },
         Err(_) => Ok(Ending::Exhausted),
     }
@@ -140,22 +154,35 @@ fn answer_rest<O: Sink>(
 // Answers the jobs of statements that were read. The run ends behind them at a wrong place, or where memory
 // runs out.
 fn answer_fed<O: Sink>(
-    queries: &mut Queries,
+    desk: &mut Desk,
     command: Command,
     fed: Fed,
     out: &mut O,
 ) -> Result<Option<Ending>, Failed>
-    requires ready { IsReady queries.old }
-    ensures stopped { IfOk result (λ stop. MatchOption stop
-        ((fed.fault ≡ None) × Answered command.trace (clauses_read queries.old) (jobs_read queries.old) fed.statements (clauses_read queries.new) (jobs_read queries.new) (O.taken out.old) (O.taken out.new))
-        (λ ending. StoppedBy command.trace ending fed.fault (jobs_read queries.old + 1) (jobs_after (clauses_read queries.old) (unnumbered fed.statements)) (O.taken out.old) (O.taken out.new))) }
-    ensures ready { IfOk result (λ stop. stop ≡ None → IsReady queries.new) }
-    ensures broke { OnErr result (TookFront command.trace (jobs_read queries.old + 1) (jobs_after (clauses_read queries.old) (unnumbered fed.statements)) (O.taken out.old) (O.taken out.new)) }
+    requires ready { IsReady command desk.old }
+    ensures ready { IsReady command desk.new }
+    ensures stops { IfOk result (λ stop. MatchOption stop
+        ((fed.fault ≡ None) × Adds desk.old desk.new fed.statements × IsDone desk.new)
+        (λ ending. StopsBy ending fed.fault desk.old desk.new fed.statements)) }
+    ensures first { OnErr result (AddsFirst desk.old desk.new fed.statements) }
+    ensures writes { OnOk result (Writes command.trace desk.old desk.new (O.taken out.old) (O.taken out.new)) }
+    ensures breaks { OnErr result (Breaks command.trace desk.old desk.new (O.taken out.old) (O.taken out.new)) }
     ensures cause { HasCause (O.faults out.old) (O.faults out.new) result }
 {
-    match queries.answer(command, fed.statements.into_items(), out) {
-        Ok(()) => Ok(fed.fault.map(Ending::Refused)),
+    let advanced = desk.advance(command, fed.statements.into_items());
+    match desk.write_settled(command, out) {
+        Ok(()) => Ok(ending_behind(advanced, fed.fault)),
         Err(Halt::Memory) => Ok(Some(Ending::Exhausted)),
         Err(Halt::Unwritten) => Err(Failed),
+    }
+}
+
+// Where a run stops behind statements: where memory ran out, or at a wrong place.
+fn ending_behind(advanced: Result<(), AllocError>, fault: Option<Fault>) -> Option<Ending>
+    ensures { result ≡ ending_behind advanced fault }
+{
+    match advanced {
+        Ok(()) => fault.map(Ending::Refused),
+        Err(_) => Some(Ending::Exhausted),
     }
 }

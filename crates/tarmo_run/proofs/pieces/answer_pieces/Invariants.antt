@@ -1,12 +1,14 @@
 use Rattle.std.proofs.Common.{◌≡◌, ◌-◌, false, length}
-use Rattle.tarmo_run.specs.Asked.{IsReady, clauses_read, jobs_read}
+use Rattle.tarmo_run.specs.Desk.{IsReady}
+use Rattle.tarmo_run.specs.Written.{Writes}
 use Rattle.tarmo_run.proofs.Reached.{Reached}
 use Rattle.tarmo_run.proofs.pieces.answer_pieces.Given as goal
 
 abbrev pub invariant-loop-count : goal.invariant-loop-count
 invariant-loop-count g l = record {
-  reached : Reached l.command.trace l.reader (clauses_read l.queries) (jobs_read l.queries) (g.S.Source.left l.fn.source) (g.S.Source.left l.source) (g.O.Sink.taken l.fn.out) (g.O.Sink.taken l.out);
-  ready : IsReady l.queries;
+  ready : IsReady l.command l.desk;
+  reached : Reached l.reader l.desk (g.S.Source.left l.fn.source) (g.S.Source.left l.source);
+  writes : Writes l.command.trace l.fn.desk l.desk (g.O.Sink.taken l.fn.out) (g.O.Sink.taken l.out);
   source_faults : g.S.Source.faults l.source ≡ g.S.Source.faults l.fn.source;
   sink_faults : g.O.Sink.faults l.out ≡ g.O.Sink.faults l.fn.out;
   unended : g.S.Source.ended l.source ≡ false;

@@ -1,20 +1,21 @@
-use Rattle.tarmo_run.proofs.Closing.{showed_end, showed_complete, showed_before_end, end_front}
+use Rattle.tarmo_run.proofs.Reached.{end_in_part, through_before_end, through_complete, through_end}
 use Rattle.tarmo_run.proofs.Results.{OnErr-always}
 use Rattle.tarmo_run.proofs.pieces.answer_rest.Goals as goal
 
-pub returns-in_err-ending-in-Ok-clause-broke : goal.returns-in_err-ending-in-Ok-clause-broke
-returns-in_err-ending-in-Ok-clause-broke g c =
-    OnErr-always c.from_residual.result (λ bytes before up. end_front _ _ _ _ c.in-Ok.fed.statements bytes before _ _ c.in-Ok.ensures.given c.in_err-ending-in-Ok.ensures.broke up)
+pub returns-in_err-ending-in-Ok-clause-in_part : goal.returns-in_err-ending-in-Ok-clause-in_part
+returns-in_err-ending-in-Ok-clause-in_part g c =
+    OnErr-always c.from_residual.result (λ bytes failed up. end_in_part c.args.reader c.args.desk.now c.answer_fed.new.desk c.in-Ok.fed.statements bytes failed c.in-Ok.ensures.given c.in_err-ending-in-Ok.ensures.first up)
 
-pub returns-in-Some-clause-showed : goal.returns-in-Some-clause-showed
-returns-in-Some-clause-showed g c = λ bytes before failed unfailing up.
-    showed_end _ c.in-Some.ending _ _ _ c.in-Ok.fed.statements c.in-Ok.fed.fault bytes failed before _ _ unfailing up c.in-Ok.ensures.given c.in-Ok.ensures.fault
-    (rw c.in-Some.is at c.in_ok-ending-in-Ok.ensures.stopped)
+pub returns-in-Some-clause-through : goal.returns-in-Some-clause-through
+returns-in-Some-clause-through g c = λ bytes failed unfailing up.
+    through_end c.in-Some.ending c.args.reader c.args.desk.now c.answer_fed.new.desk c.in-Ok.fed.statements c.in-Ok.fed.fault bytes failed unfailing up c.in-Ok.ensures.given c.in-Ok.ensures.fault
+    (rw c.in-Some.is at c.in_ok-ending-in-Ok.ensures.stops)
 
-pub returns-in-None-clause-showed : goal.returns-in-None-clause-showed
-returns-in-None-clause-showed g c = λ bytes before failed unfailing up.
-    let stopped = rw c.in-None.is at c.in_ok-ending-in-Ok.ensures.stopped in
-    rw c.jobs.ensures (showed_complete _ _ _ _ _ _ c.in-Ok.fed.statements c.in-Ok.fed.fault bytes failed before _ _ unfailing up c.in-Ok.ensures.given c.in-Ok.ensures.fault stopped.0 stopped.1)
+pub returns-in-None-clause-through : goal.returns-in-None-clause-through
+returns-in-None-clause-through g c = λ bytes failed unfailing up.
+    let stopped = rw c.in-None.is at c.in_ok-ending-in-Ok.ensures.stops in
+    through_complete c.args.reader c.args.desk.now c.answer_fed.new.desk c.jobs.result c.in-Ok.fed.statements c.in-Ok.fed.fault bytes failed unfailing up c.in-Ok.ensures.given c.in-Ok.ensures.fault
+    stopped.0 stopped.1 stopped.2 c.jobs.ensures
 
-pub returns-in-Err-clause-showed : goal.returns-in-Err-clause-showed
-returns-in-Err-clause-showed g c = λ bytes before failed unfailing up. showed_before_end _ _ _ _ bytes failed before _ up
+pub returns-in-Err-clause-through : goal.returns-in-Err-clause-through
+returns-in-Err-clause-through g c = λ bytes failed unfailing up. through_before_end c.args.reader c.args.desk.now bytes failed up

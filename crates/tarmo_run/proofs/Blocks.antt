@@ -1,0 +1,173 @@
+-- The blocks of settled jobs.
+use Rattle.std.proofs.Common.{◌≡◌, ◌∙◌, ℕ, suc, ◌+◌, ◌≤◌, ◌<◌, Bool, true, false, List, [], ◌∷◌, ◌++◌, length, map, take, Option, Some, None, refl, ap, sym, subst, arith, add-one, append_assoc, append-nil, cond}
+use Rattle.std.specs.Prelude.{filter, nat_le, max}
+use Rattle.std.specs.Arc.{arc_value}
+use Rattle.std.proofs.lemmas.List.{length-append, length-map, map-append}
+use Rattle.std.proofs.Math.Seq.{take-append-add}
+use Rattle.run_io.specs.Bytes.{appended}
+use Rattle.run_io.proofs.Laws.{appended_twice}
+use Rattle.sat_base.specs.Lit.{IsLitSet, greatest_of, greatest_of_all}
+use Rattle.trace_core.specs.Known.{Known, item_at}
+use Rattle.trace_core.specs.Law.{clauses_up_to}
+use Rattle.entry_core.specs.declared.answers.Answer.{Answer}
+use Rattle.entry_core.specs.declared.answers.Answer.TheVariants as answer
+use Rattle.entry_core.specs.declared.answers.Verdict.{Verdict}
+use Rattle.entry_core.specs.declared.answers.Verdict.TheVariants as verdict
+use Rattle.entry_core.specs.declared.entries.Entry.{Entry}
+use Rattle.entry_core.specs.declared.rules.Rules.{Rules}
+use Rattle.entry_core.specs.declared.segments.Segment.{Segment}
+use Rattle.entry_core.specs.Causes.{HasCause}
+use Rattle.entry_core.specs.Journal.{clauses_of, cube_in, cube_of, inputs, inputs_of, jobs, segments, tagged_from}
+use Rattle.entry_core.specs.Law.{VerdictsHaveCauses}
+use Rattle.entry_core.specs.Legal.{IsLegal}
+use Rattle.entry_core.specs.Right.{IsRightAnswer}
+use Rattle.entry_core.specs.Settled.{settled}
+use Rattle.entry_core.proofs.Inputs.{inputs_of_one_more}
+use Rattle.entry_core.proofs.Limits.{few_inputs}
+use Rattle.board_core.specs.Replies.{HasVerdict, IsJob, IsSame}
+use Rattle.board_core.specs.State.{State}
+use Rattle.verdict_text.specs.Block.{IsBlock, IsPrintable, shown_of, shown_of_answer}
+use Rattle.verdict_text.specs.declared.blocks.Shown.{Shown}
+use Rattle.tarmo_run.specs.declared.desk.Desk.{Desk}
+use Rattle.tarmo_run.specs.declared.words.Command.{Command}
+use Rattle.tarmo_run.specs.Block.{AreBlocks, IsBlockOf}
+use Rattle.tarmo_run.specs.Desk.{IsDue, IsReady, clauses_behind, clauses_read}
+use Rattle.tarmo_run.specs.Written.{HasWritten, TookBlocks, TookFront}
+use Rattle.tarmo_run.proofs.Cited.{ok_cite_earlier}
+use Rattle.tarmo_run.proofs.Desks.{within_set}
+
+-- how many inputs the next job has
+pub inputs_counted : (journal : List Entry) (written job count : ℕ) (segment : Segment) → job ≡ written + 1 → item_at (segments journal) job ≡ Some segment → count ≡ length (inputs_of journal written)
+    → count + length segment.clauses ≡ length (inputs_of journal job)
+inputs_counted journal written job count segment next is counted =
+    let one : length (map (λ (clause : List ℕ). record { clause = clause; tag = written + 1 }) segment.clauses) ≡ length segment.clauses = length-map {B = Known} segment.clauses (λ (clause : List ℕ). record { clause = clause; tag = written + 1 }) in
+    let all = ap length (inputs_of_one_more journal written segment (subst (λ n. item_at (segments journal) n ≡ Some segment) next is)) in
+    omega (arith, counted, one, all, length-append (inputs_of journal written) (map (λ (clause : List ℕ). record { clause = clause; tag = written + 1 }) segment.clauses), ap (λ n. length (inputs_of journal n)) next)
+
+filter_le : {X : Type 0} (p : X → Bool) (xs : List X) → length (filter p xs) ≤ length xs
+filter_le p [] = omega arith
+filter_le {X} p (x ∷ xs) = by (p x) (filter p xs) (filter_le p xs)
+  where
+    by : (b : Bool) (rest : List X) → length rest ≤ length xs → length (cond b (x ∷ rest) rest) ≤ suc (length xs)
+    by true rest le = omega (arith, le)
+    by false rest le = omega (arith, le)
+
+-- a job has no more clauses than a board may have
+pub inputs_few : (board : State) (job count : ℕ) → IsLegal board.rules board.journal → count ≡ length (inputs_of board.journal job) → count ≤ 16777216
+inputs_few board job count legal counted =
+    let all = few_inputs board.rules board.journal legal in
+    let some = filter_le (λ (input : Known). nat_le input.tag job) (inputs board.journal) in
+    omega (arith, all, some, counted)
+
+filter_within : (p : Known → Bool) (knowns : List Known) → greatest_of_all (map (λ (one : Known). one.clause) (filter p knowns)) ≤ greatest_of_all (map (λ (one : Known). one.clause) knowns)
+filter_within p [] = omega arith
+filter_within p (one ∷ knowns) = by (p one) (filter p knowns) (filter_within p knowns)
+  where
+    by : (b : Bool) (rest : List Known) → greatest_of_all (map (λ (one : Known). one.clause) rest) ≤ greatest_of_all (map (λ (one : Known). one.clause) knowns)
+        → greatest_of_all (map (λ (one : Known). one.clause) (cond b (one ∷ rest) rest)) ≤ max (greatest_of one.clause) (greatest_of_all (map (λ (one : Known). one.clause) knowns))
+    by true rest le = omega (arith, le)
+    by false rest le = omega (arith, le)
+
+tagged_clauses : (tag : ℕ) (clauses : List (List ℕ)) → map (λ (one : Known). one.clause) (map (λ (clause : List ℕ). record { clause = clause; tag = tag }) clauses) ≡ clauses
+tagged_clauses tag [] = refl
+tagged_clauses tag (clause ∷ clauses) = ap (λ (rest : List (List ℕ)). clause ∷ rest) (tagged_clauses tag clauses)
+
+-- the clauses of all segments are those of all inputs
+all_clauses : (clauses : List (List ℕ)) (job : ℕ) (list : List Segment) → clauses_behind clauses list ≡ clauses ++ map (λ (one : Known). one.clause) (tagged_from job list)
+all_clauses clauses job [] = sym (append-nil clauses)
+all_clauses clauses job (segment ∷ list) =
+    all_clauses (clauses ++ segment.clauses) (suc job) list
+    ∙ append_assoc clauses segment.clauses (map (λ (one : Known). one.clause) (tagged_from (suc job) list))
+    ∙ ap (λ (first : List (List ℕ)). clauses ++ (first ++ map (λ (one : Known). one.clause) (tagged_from (suc job) list))) (sym (tagged_clauses job segment.clauses))
+    ∙ ap (λ (all : List (List ℕ)). clauses ++ all) (sym (map-append (λ (one : Known). one.clause) (map (λ (clause : List ℕ). record { clause = clause; tag = job }) segment.clauses) (tagged_from (suc job) list)))
+
+within_front : (clauses more : List (List ℕ)) → greatest_of_all clauses ≤ greatest_of_all (clauses ++ more)
+within_front [] more = omega arith
+within_front (clause ∷ clauses) more = let rest = within_front clauses more in omega (arith, rest)
+
+-- the variables of each job are within the greatest one
+clauses_within : (desk : Desk) (job : ℕ) → greatest_of_all (clauses_read desk) ≤ 8388607 → greatest_of_all (clauses_of desk.board.journal job) ≤ 8388607
+clauses_within desk job within =
+    let all = all_clauses [] 1 (segments desk.board.journal) in
+    let front = within_front (clauses_behind [] (segments desk.board.journal)) desk.pending.items in
+    let some = filter_within (λ (input : Known). nat_le input.tag job) (inputs desk.board.journal) in
+    omega (arith, within, front, some, ap greatest_of_all all)
+
+printable_answer : (trace : Bool) (journal : List Entry) (job : ℕ) (given : Answer) → greatest_of_all (clauses_of journal job) ≤ 8388607 → IsLitSet (cube_of journal job) → IsRightAnswer journal job given
+    → IsPrintable (length (inputs_of journal job)) (shown_of_answer trace given)
+printable_answer trace journal job (answer.Model values) within set right = omega (arith, right.size, within, within_set (cube_of journal job) set)
+printable_answer true journal job (answer.Refuted part steps) within set right = ok_cite_earlier (inputs_of journal job) steps right.1.ok
+printable_answer false journal job (answer.Refuted part steps) within set right = tt
+
+printable_verdict : (trace : Bool) (rules : Rules) (journal : List Entry) (job : ℕ) (given copy : Verdict) → greatest_of_all (clauses_of journal job) ≤ 8388607 → IsLitSet (cube_of journal job) → HasCause rules journal job given → IsSame given copy
+    → IsPrintable (length (inputs_of journal job)) (shown_of trace copy)
+printable_verdict trace rules journal job given (verdict.Cancelled by) within set cause same = tt
+printable_verdict trace rules journal job given verdict.Spent within set cause same = tt
+printable_verdict trace rules journal job given verdict.Starved within set cause same = tt
+printable_verdict trace rules journal job (verdict.Answered one) (verdict.Answered other) within set cause same =
+    subst (λ (given : Answer). IsPrintable (length (inputs_of journal job)) (shown_of_answer trace given)) same (printable_answer trace journal job (arc_value one) within set cause)
+printable_verdict trace rules journal job (verdict.Cancelled by) (verdict.Answered other) within set cause same = absurd same
+printable_verdict trace rules journal job verdict.Spent (verdict.Answered other) within set cause same = absurd same
+printable_verdict trace rules journal job verdict.Starved (verdict.Answered other) within set cause same = absurd same
+
+-- the block of a job's verdict can be printed
+pub block_printable : (trace : Bool) (desk : Desk) (job count : ℕ) (copy : Verdict) (segment : Segment) → VerdictsHaveCauses → IsLegal desk.board.rules desk.board.journal → greatest_of_all (clauses_read desk) ≤ 8388607
+    → HasVerdict desk.board job copy → count ≡ length (inputs_of desk.board.journal job) → item_at (segments desk.board.journal) job ≡ Some segment → IsLitSet segment.cube → IsPrintable count (shown_of trace copy)
+block_printable trace desk job count copy segment law legal within has counted is set =
+    let cube : cube_of desk.board.journal job ≡ segment.cube = ap cube_in is in
+    subst (λ n. IsPrintable n (shown_of trace copy)) (sym counted)
+    (printable_verdict trace desk.board.rules desk.board.journal job has.given copy (clauses_within desk job within) (subst IsLitSet (sym cube) set) (law desk.board.rules desk.board.journal job has.given legal has.is) has.same)
+
+same_shown : (trace : Bool) (given copy : Verdict) → IsSame given copy → shown_of trace copy ≡ shown_of trace given
+same_shown trace (verdict.Answered one) (verdict.Answered other) same = ap (shown_of_answer trace) (sym same)
+same_shown trace (verdict.Answered one) (verdict.Cancelled by) same = absurd same
+same_shown trace (verdict.Answered one) verdict.Spent same = absurd same
+same_shown trace (verdict.Answered one) verdict.Starved same = absurd same
+same_shown trace (verdict.Cancelled by) (verdict.Answered other) same = absurd same
+same_shown trace (verdict.Cancelled by) (verdict.Cancelled other) same = refl
+same_shown trace (verdict.Cancelled by) verdict.Spent same = absurd same
+same_shown trace (verdict.Cancelled by) verdict.Starved same = absurd same
+same_shown trace verdict.Spent (verdict.Answered other) same = absurd same
+same_shown trace verdict.Spent (verdict.Cancelled other) same = absurd same
+same_shown trace verdict.Spent verdict.Spent same = refl
+same_shown trace verdict.Spent verdict.Starved same = absurd same
+same_shown trace verdict.Starved (verdict.Answered other) same = absurd same
+same_shown trace verdict.Starved (verdict.Cancelled other) same = absurd same
+same_shown trace verdict.Starved verdict.Spent same = absurd same
+same_shown trace verdict.Starved verdict.Starved same = refl
+
+-- what is printed of a copy of the verdict is the job's block
+pub block_right : (trace : Bool) (board : State) (job count : ℕ) (copy : Verdict) (text : List ℕ) → HasVerdict board job copy → count ≡ length (inputs_of board.journal job)
+    → IsBlock count (record { job = job; shown = shown_of trace copy }) text → IsBlockOf trace board job text
+block_right trace board job count copy text has counted block = record {
+  given = has.given;
+  is = has.is;
+  block = subst (λ n. IsBlock n (record { job = job; shown = shown_of trace has.given }) text) counted
+      (subst (λ (shown : Shown). IsBlock count (record { job = job; shown = shown }) text) (same_shown trace has.given copy has.same) block);
+}
+
+-- one block more
+pub blocks_more : (trace : Bool) (board : State) (written job : ℕ) (blocks block : List ℕ) → job ≡ written + 1 → AreBlocks trace board written blocks → IsBlockOf trace board job block → AreBlocks trace board job (blocks ++ block)
+blocks_more trace board written job blocks block next are is =
+    let same : job ≡ suc written = next ∙ add-one written in
+    subst (λ n. AreBlocks trace board n (blocks ++ block)) (sym same) (blocks, block, are, subst (λ n. IsBlockOf trace board n block) same is, refl)
+
+pub wrote_one : (trace : Bool) (board : State) (written job : ℕ) (block : List ℕ) (before now after : Option (List ℕ)) → job ≡ written + 1 → IsBlockOf trace board job block → after ≡ appended now block
+    → TookBlocks trace board written before now → TookBlocks trace board job before after
+wrote_one trace board written job block before now after next is more took = record {
+  blocks = took.blocks ++ block;
+  right = blocks_more trace board written job took.blocks block next took.right is;
+  taken = more ∙ ap (λ taken. appended taken block) took.taken ∙ appended_twice before took.blocks block;
+}
+
+pub broke_one : (trace : Bool) (board : State) (written job size : ℕ) (block : List ℕ) (before now after : Option (List ℕ)) → job ≡ written + 1 → job ≤ jobs board.journal → IsBlockOf trace board job block → size ≤ length block → after ≡ appended now (take size block)
+    → TookBlocks trace board written before now → TookFront trace board before after
+broke_one trace board written job size block before now after next few is within more took = record {
+  count = job;
+  few = few;
+  blocks = took.blocks ++ block;
+  right = blocks_more trace board written job took.blocks block next took.right is;
+  size = length took.blocks + size;
+  within = omega (arith, length-append took.blocks block, within);
+  taken = more ∙ ap (λ taken. appended taken (take size block)) took.taken ∙ appended_twice before took.blocks (take size block) ∙ ap (appended before) (sym (take-append-add took.blocks block size));
+}

@@ -1,0 +1,180 @@
+-- From the pieces of a text to the whole output, and to the board that is given back.
+use Rattle.std.proofs.Common.{◌≡◌, ◌∙◌, ℕ, ◌+◌, ◌≤◌, List, [], ◌++◌, length, take, Option, Bool, refl, ap, sym, subst, arith, inl, inr}
+use Rattle.std.specs.Prelude.{◌⊎◌}
+use Rattle.std.proofs.lemmas.List.{length-append, take-append-le}
+use Rattle.std.proofs.Math.Seq.{take-append-add}
+use Rattle.run_io.specs.Bytes.{appended}
+use Rattle.run_io.proofs.Laws.{appended_nothing, appended_twice}
+use Rattle.entry_core.specs.declared.entries.Entry.{Entry}
+use Rattle.entry_core.specs.Journal.{jobs, segments}
+use Rattle.entry_core.specs.Legal.{IsLegal}
+use Rattle.entry_core.specs.Settled.{cancelled}
+use Rattle.board_core.specs.State.{State}
+use Rattle.icnf_text.specs.Jobs.{Job}
+use Rattle.tarmo_run.specs.declared.desk.Desk.{Desk}
+use Rattle.tarmo_run.specs.declared.endings.Ending.{Ending}
+use Rattle.tarmo_run.specs.declared.endings.Ending.TheVariants.{Complete, Refused, Unread, Exhausted}
+use Rattle.tarmo_run.specs.declared.words.Command.{Command}
+use Rattle.tarmo_run.specs.Block.{AreBlocks}
+use Rattle.tarmo_run.specs.Desk.{HasNoJobMore, IsDone, IsFresh, queries_behind, queries_of}
+use Rattle.tarmo_run.specs.Ended.{Finished, FinishedInPart}
+use Rattle.tarmo_run.specs.Output.{AreSettled, IsEnding, IsOutput, IsRun, PutFirst, Reading, UnlessExhausted, WroteAll, WroteFront, last_line_of, queries_in, status_of}
+use Rattle.tarmo_run.specs.Reading.{IsBegun, IsThrough, ReadsInPart, ReadsThrough}
+use Rattle.tarmo_run.specs.Words.{rules_of}
+use Rattle.tarmo_run.specs.Written.{HasWritten, TookFront, TookFrontOfLine}
+use Rattle.tarmo_run.proofs.Boards.{blocks_stay, settled_stay}
+use Rattle.tarmo_run.proofs.Queries.{queries_put}
+
+-- nothing is written yet
+pub none_written : (trace : Bool) (desk : Desk) (before : Option (List ℕ)) → IsFresh desk → HasWritten trace desk before before
+none_written trace desk before fresh = record {
+  blocks = [];
+  right = subst (λ n. AreBlocks trace desk.board n []) (sym fresh.written) refl;
+  taken = sym (appended_nothing before);
+}
+
+unless : (ending : Ending) (P Q : Type 0) → (P → Q) → UnlessExhausted ending P → UnlessExhausted ending Q
+unless (Complete count) P Q f p = f p
+unless (Refused fault) P Q f p = f p
+unless Unread P Q f p = f p
+unless Exhausted P Q f p = tt
+
+told_unless : (ending told : Ending) (P : Type 0) → (told ≡ ending) ⊎ (told ≡ Exhausted) → UnlessExhausted ending P → UnlessExhausted told P
+told_unless ending told P (inl same) p = subst (λ (e : Ending). UnlessExhausted e P) (sym same) p
+told_unless ending told P (inr memory) p = subst (λ (e : Ending). UnlessExhausted e P) (sym memory) tt
+
+told_ends : (ending told : Ending) (reading : Reading) → (told ≡ ending) ⊎ (told ≡ Exhausted) → IsEnding ending reading → IsEnding told reading
+told_ends ending told reading (inl same) ends = subst (λ (e : Ending). IsEnding e reading) (sym same) ends
+told_ends ending told reading (inr memory) ends = subst (λ (e : Ending). IsEnding e reading) (sym memory) tt
+
+abbrev begun_still : (reading : Reading) (old new : Desk) → HasNoJobMore old.board new.board → IsBegun reading old → IsBegun reading new
+begun_still reading old new more begun = record {
+  left = begun.left;
+  queries = begun.queries ∙ ap (λ (jobs : List Job). jobs ++ begun.left) (ap (queries_behind []) (sym more.segments));
+}
+
+-- the blocks and a last line are an output
+output_of : (trace : Bool) (ending told : Ending) (reading : Reading) (old new : Desk) (blocks : List ℕ) → IsThrough ending reading old → (told ≡ ending) ⊎ (told ≡ Exhausted) → HasNoJobMore old.board new.board → old.written ≤ jobs old.board.journal
+    → AreBlocks trace old.board old.written blocks → IsOutput trace told reading new.board (blocks ++ last_line_of told)
+output_of trace ending told reading old new blocks through which more few are = record {
+  ends = told_ends ending told reading which through.ends;
+  count = old.written;
+  few = subst (λ n. old.written ≤ n) (ap length (sym more.segments)) few;
+  all = told_unless ending told (old.written ≡ jobs new.board.journal) which
+      (unless ending ((through.begun.left ≡ []) × IsDone old) (old.written ≡ jobs new.board.journal) (λ done. done.1.written ∙ ap length (sym more.segments)) through.all);
+  blocks = blocks;
+  right = blocks_stay trace old.board new.board old.written blocks more.longer few are;
+  written = refl;
+}
+
+pub finished : (trace : Bool) (ending told : Ending) (left_before left_after : Option (List ℕ)) (ended failed : Bool) (old new : Desk) (before middle after : Option (List ℕ)) →
+    ReadsThrough ending left_before left_after ended failed old → HasWritten trace old before middle → old.written ≤ jobs old.board.journal → HasNoJobMore old.board new.board → cancelled new.board.journal ≡ [] →
+    (told ≡ ending) ⊎ (told ≡ Exhausted) → after ≡ appended middle (last_line_of told) → Finished trace told left_before left_after ended failed new before after
+finished trace ending told left_before left_after ended failed old new before middle after reads took few more uncancelled which line =
+    let reading : Reading = record { bytes = reads.bytes; ended = ended; failed = failed } in
+    record {
+      bytes = reads.bytes;
+      gave = reads.gave;
+      text = took.blocks ++ last_line_of told;
+      output = output_of trace ending told reading old new took.blocks reads.through which more few took.right;
+      taken = line ∙ ap (λ taken. appended taken (last_line_of told)) took.taken ∙ appended_twice before took.blocks (last_line_of told);
+      begun = begun_still reading old new more reads.through.begun;
+      all = told_unless ending told ((reads.through.begun.left ≡ []) × AreSettled new.board) which
+          (unless ending ((reads.through.begun.left ≡ []) × IsDone old) ((reads.through.begun.left ≡ []) × AreSettled new.board) (λ done. (done.0, settled_stay old.board new.board more done.1.settled)) reads.through.all);
+      none_cancelled = uncancelled;
+    }
+
+pub finished_in_line : (trace : Bool) (ending : Ending) (left_before left_after : Option (List ℕ)) (ended failed : Bool) (old new : Desk) (before middle after : Option (List ℕ)) →
+    ReadsThrough ending left_before left_after ended failed old → HasWritten trace old before middle → old.written ≤ jobs old.board.journal → HasNoJobMore old.board new.board →
+    TookFrontOfLine ending middle after → FinishedInPart trace left_before left_after ended failed new before after
+finished_in_line trace ending left_before left_after ended failed old new before middle after reads took few more front =
+    let reading : Reading = record { bytes = reads.bytes; ended = ended; failed = failed } in
+    record {
+      bytes = reads.bytes;
+      gave = reads.gave;
+      ending = front.told;
+      text = took.blocks ++ last_line_of front.told;
+      output = output_of trace ending front.told reading old new took.blocks reads.through front.which more few took.right;
+      size = length took.blocks + front.size;
+      taken = front.taken ∙ ap (λ taken. appended taken (take front.size (last_line_of front.told))) took.taken
+          ∙ appended_twice before took.blocks (take front.size (last_line_of front.told))
+          ∙ ap (appended before) (sym (take-append-add took.blocks (last_line_of front.told) front.size));
+      begun = begun_still reading old new more reads.through.begun;
+    }
+
+pub finished_in_blocks : (trace : Bool) (left_before left_after : Option (List ℕ)) (ended failed : Bool) (desk : Desk) (before after : Option (List ℕ)) →
+    ReadsInPart left_before left_after ended failed desk → TookFront trace desk.board before after → FinishedInPart trace left_before left_after ended failed desk before after
+finished_in_blocks trace left_before left_after ended failed desk before after reads front = record {
+  bytes = reads.bytes;
+  gave = reads.gave;
+  ending = Exhausted;
+  text = front.blocks ++ last_line_of Exhausted;
+  output = record { ends = tt; count = front.count; few = front.few; all = tt; blocks = front.blocks; right = front.right; written = refl };
+  size = front.size;
+  taken = front.taken ∙ ap (appended before) (sym (take-append-le front.size front.blocks (last_line_of Exhausted) front.within));
+  begun = reads.begun;
+}
+
+put_first : (reading : Reading) (desk : Desk) (begun : IsBegun reading desk) → PutFirst desk.board.journal (queries_in reading.bytes reading.ended) begun.left
+put_first reading desk begun = record { done = queries_of desk; whole = begun.queries; put = queries_put desk.board.journal }
+
+-- the whole output was taken, and the board is given back
+pub ran_through : (command : Command) (ending : Ending) (left_before left_after : Option (List ℕ)) (ended failed : Bool) (desk : Desk) (before after : Option (List ℕ)) (status : ℕ) →
+    desk.board.rules ≡ rules_of command → IsLegal desk.board.rules desk.board.journal → status ≡ status_of ending desk.board → Finished command.trace ending left_before left_after ended failed desk before after →
+    IsRun command left_before left_after ended failed before after status desk.board
+ran_through command ending left_before left_after ended failed desk before after status rules legal told f =
+    let reading : Reading = record { bytes = f.bytes; ended = ended; failed = failed } in
+    record {
+      rules = rules;
+      legal = legal;
+      bytes = f.bytes;
+      gave = f.gave;
+      wrote = inl (record {
+        ending = ending;
+        text = f.text;
+        output = f.output;
+        taken = f.taken;
+        told = told;
+        left = f.begun.left;
+        put = put_first reading desk f.begun;
+        all_put = unless ending ((f.begun.left ≡ []) × AreSettled desk.board) (f.begun.left ≡ []) (λ all. all.0) f.all;
+        all_settled = unless ending ((f.begun.left ≡ []) × AreSettled desk.board) (AreSettled desk.board) (λ all. all.1) f.all;
+        none_cancelled = f.none_cancelled;
+      });
+    }
+
+output_still : (trace : Bool) (ending : Ending) (reading : Reading) (old new : State) (text : List ℕ) → HasNoJobMore old new → IsOutput trace ending reading old text → IsOutput trace ending reading new text
+output_still trace ending reading old new text more output = record {
+  ends = output.ends;
+  count = output.count;
+  few = subst (λ n. output.count ≤ n) (ap length (sym more.segments)) output.few;
+  all = unless ending (output.count ≡ jobs old.journal) (output.count ≡ jobs new.journal) (λ all. all ∙ ap length (sym more.segments)) output.all;
+  blocks = output.blocks;
+  right = blocks_stay trace old new output.count output.blocks more.longer output.few output.right;
+  written = output.written;
+}
+
+-- the sink failed, and what wasn't settled was cancelled
+pub ran_in_part : (command : Command) (left_before left_after : Option (List ℕ)) (ended failed : Bool) (old new : Desk) (before after : Option (List ℕ)) (status : ℕ) →
+    new.board.rules ≡ rules_of command → IsLegal new.board.rules new.board.journal → status ≡ 4 → HasNoJobMore old.board new.board → AreSettled new.board → FinishedInPart command.trace left_before left_after ended failed old before after →
+    IsRun command left_before left_after ended failed before after status new.board
+ran_in_part command left_before left_after ended failed old new before after status rules legal told more settled f =
+    let reading : Reading = record { bytes = f.bytes; ended = ended; failed = failed } in
+    let begun = begun_still reading old new more f.begun in
+    record {
+      rules = rules;
+      legal = legal;
+      bytes = f.bytes;
+      gave = f.gave;
+      wrote = inr (record {
+        ending = f.ending;
+        text = f.text;
+        output = output_still command.trace f.ending reading old.board new.board f.text more f.output;
+        size = f.size;
+        taken = f.taken;
+        told = told;
+        left = begun.left;
+        put = put_first reading new begun;
+        all_settled = settled;
+      });
+    }

@@ -1,0 +1,15 @@
+use Rattle.std.proofs.Common.{◌≡◌, ◌≤◌, ◌-◌}
+use Rattle.entry_core.specs.Journal.{jobs}
+use Rattle.tarmo_run.specs.Desk.{HasNoJobMore}
+use Rattle.tarmo_run.proofs.Cancelled.{AreSettledTo}
+use Rattle.tarmo_run.proofs.desk.cancel_all.Given as goal
+
+abbrev pub invariant-loop-job : goal.invariant-loop-job
+invariant-loop-job l = record {
+  more : HasNoJobMore l.fn.board l.board;
+  settled : AreSettledTo l.board l.job;
+  within : l.job ≤ l.jobs;
+}
+
+abbrev pub decreases-loop-job : goal.decreases-loop-job
+decreases-loop-job l = l.jobs - l.job
