@@ -18,7 +18,7 @@ use Rattle.entry_core.specs.declared.entries.Event.{Event}
 use Rattle.entry_core.specs.declared.entries.Event.TheVariants as event
 use Rattle.entry_core.specs.Journal.{segments, segment_of, tagged_from, inputs_of, clauses_of, cube_in, jobs, shared}
 use Rattle.entry_core.specs.Attempts.{Attempt, begun_by, attempts, ended_by}
-use Rattle.entry_core.specs.Right.{IsRightAnswer, IsSpentFor, IsSpent, Subsumes}
+use Rattle.entry_core.specs.Right.{AreLiterals, IsRightAnswer, IsSpentFor, IsSpent, Subsumes}
 use Rattle.entry_core.specs.Legal.{IsShareable}
 use Rattle.board_core.specs.State.{State, entered}
 use Rattle.board_core.specs.declared.task.Task.{Task}
@@ -111,6 +111,7 @@ not_subsumed = All-cons (λ given. Subsumes given (4 ∷ []) → ⊥) (2 ∷ 4 �
 spent_list : IsSpent worked_job.clauses 2 1 ((4 ∷ []) ∷ [])
 spent_list = record {
   number = refl;
+  literals = All-cons AreLiterals (4 ∷ []) [] (All-cons (λ code. 2 ≤ code) 4 [] (omega arith) (All-nil (λ code. 2 ≤ code))) (All-nil AreLiterals);
   proper = All-cons (λ clause. IsTautology clause → ⊥) (4 ∷ []) [] proper (All-nil (λ clause. IsTautology clause → ⊥));
   new = All-cons (λ clause. All (λ given. Subsumes given clause → ⊥) worked_job.clauses) (4 ∷ []) [] not_subsumed (All-nil (λ clause. All (λ given. Subsumes given clause → ⊥) worked_job.clauses));
   different = λ i j d lt within. absurd (omega (arith, lt, within));

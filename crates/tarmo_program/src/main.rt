@@ -13,7 +13,7 @@ fn main(rt: HostRuntime) -> ExitCode {
         Ok(words) => {
             let mut source = StdSource::new(&rt);
             let mut sink = StdSink::new(&rt);
-            run_alone(rt.alloc(), &words, &mut source, &mut sink)
+            run_alone(rt.alloc(), &words, &mut source, &mut sink).status
         }
         Err(fault) if fault.kind() == io::ErrorKind::OutOfMemory => NO_MEMORY,
         // A word that is no UTF-8 is a word all the same.

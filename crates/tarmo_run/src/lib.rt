@@ -9,6 +9,8 @@ mod alone;
 mod desk;
 mod endings;
 mod pieces;
+#[cfg(test)]
+mod tests;
 mod words;
 mod writing;
 

@@ -1,0 +1,99 @@
+//! The words of a run.
+
+use super::{PLAIN, Setting, TWO_ANSWERS, TWO_JOBS, run, words_of};
+use crate::{WORDS_REFUSED, run_alone};
+use run_io::{MemorySink, MemorySource};
+use std::alloc::{AllocError, Global};
+use std::process::Abort;
+use std::test::Fail;
+
+// Words that are accepted: whether the run shows traces, how many clauses an attempt may learn, and how many attempts a
+// job has.
+const ACCEPTED: &[(&str, bool, u64, u32)] = &[
+    ("", false, 18_446_744_073_709_551_615, 1),
+    ("--trace", true, 18_446_744_073_709_551_615, 1),
+    ("--conflicts 1", false, 1, 1),
+    ("--conflicts 64", false, 64, 1),
+    (
+        "--conflicts 18446744073709551615",
+        false,
+        18_446_744_073_709_551_615,
+        1,
+    ),
+    ("--attempts 1", false, 18_446_744_073_709_551_615, 1),
+    ("--attempts 64", false, 18_446_744_073_709_551_615, 64),
+    ("--trace --conflicts 7 --attempts 2", true, 7, 2),
+    ("--attempts 2 --conflicts 7 --trace", true, 7, 2),
+    ("--conflicts 7 --trace --attempts 2", true, 7, 2),
+    ("--attempts 2 --trace", true, 18_446_744_073_709_551_615, 2),
+    ("--attempts 2 --conflicts 7", false, 7, 2),
+];
+
+const REFUSED: &[&str] = &[
+    "--help",
+    "--Trace",
+    "--trace x",
+    "x --trace",
+    "pigeons.icnf",
+    "+1",
+    "--conflicts",
+    "--conflicts 0",
+    "--conflicts 01",
+    "--conflicts +1",
+    "--conflicts -1",
+    "--conflicts 18446744073709551616",
+    "--conflicts=1",
+    "--conflicts --trace",
+    "--attempts",
+    "--attempts 0",
+    "--attempts 65",
+    "--attempts 18446744073709551616",
+    "--trace --trace",
+    "--conflicts 1 --conflicts 2",
+    "--attempts 1 --attempts 1",
+];
+
+#[test]
+fn accepted_words_are_the_rules_of_the_board(rt: HostRuntime) -> Result<(), Fail> {
+    for (words, trace, conflicts, attempts) in ACCEPTED {
+        let setting = Setting { words, ..PLAIN };
+        let run = run(rt.alloc(), b"p inccnf\n0\na 0\n", setting)?;
+        let output = if *trace {
+            "j 1 UNSATISFIABLE\nf 0\nt 2 0 1 0\nend 1\n"
+        } else {
+            "j 1 UNSATISFIABLE\nf 0\nend 1\n"
+        };
+        assert_eq!(rt; run.taken.as_slice(), output.as_bytes(), "{words}");
+        assert_eq!(rt; run.status, 0, "{words}");
+        let Some(board) = &run.board else {
+            panic!(rt; "no board: {words}");
+        };
+        assert_eq!(rt; board.rules().conflicts, *conflicts, "{words}");
+        assert_eq!(rt; board.rules().attempts, *attempts, "{words}");
+    }
+    Ok(())
+}
+
+// These words are refused, and nothing is read or written: the same source then gives its whole text.
+fn assert_refused(alloc: Global, rt: &impl Abort, line: &str) -> Result<(), AllocError> {
+    let words = words_of(alloc, line)?;
+    let bytes = TWO_JOBS.as_bytes().to_vec(alloc)?;
+    let mut source = MemorySource::new(bytes, Vec::new(alloc), Vec::new(alloc));
+    let mut sink = MemorySink::new(alloc, 1000, 1000, Vec::new(alloc))?;
+    let refused = run_alone(alloc, &words, &mut source, &mut sink);
+    assert_eq!(rt; refused.status, WORDS_REFUSED, "{line}");
+    assert!(rt; refused.board.is_none(), "{line}");
+    assert_eq!(rt; sink.bytes(), b"".as_slice(), "{line}");
+    let finish = run_alone(alloc, &[], &mut source, &mut sink);
+    assert_eq!(rt; finish.status, 0);
+    assert_eq!(rt; sink.bytes(), TWO_ANSWERS.as_bytes());
+    Ok(())
+}
+
+#[test]
+fn other_words_are_refused(rt: HostRuntime) -> Result<(), Fail> {
+    for line in REFUSED {
+        assert_refused(rt.alloc(), &rt, line)?;
+    }
+    Ok(())
+}
