@@ -2,13 +2,12 @@
 use Rattle.std.proofs.Common.{◌≡◌, ◌≢◌, ◌∙◌, ℕ, zero, suc, ◌+◌, ◌-◌, ◌<◌, ◌≤◌, List, [], ◌∷◌, length, set, Option, None, Some, Bool, true, false, refl, ap, sym, subst, inl, inr, arith, get_or}
 use Rattle.std.specs.Prelude.{◌⊎◌, Contains, AllPairs, ◌==◌, cond, slice_get}
 use Rattle.std.specs.Option.{option_flatten}
-use Rattle.std.proofs.lemmas.Bool.{cases_lt, cases_eq}
+use Rattle.std.proofs.lemmas.Bool.{cases_lt}
 use Rattle.std.proofs.lemmas.Bool.Decides.{nat_tests}
 use Rattle.std.proofs.lemmas.Option.{slice_get_within, slice_get-get_or, get_or_from_slice_get}
 use Rattle.std.proofs.lemmas.List.{length-set}
 use Rattle.sat_base.specs.declared.origins.Ref.{Ref}
 use Rattle.sat_base.specs.declared.origins.Ref.TheVariants.{Shared}
-use Rattle.trace_core.specs.Known.{item_at}
 use Rattle.trace_trim.specs.Packed.{name_of}
 use Rattle.trace_trim.proofs.Zips.{slice_get-place}
 use Rattle.session.specs.Publishing.{AreNamedAnew}

@@ -1,6 +1,6 @@
 -- A packet of a session can be shared.
-use Rattle.std.proofs.Common.{◌≡◌, ◌∙◌, ℕ, ◌≤◌, List, [], map, Option, Some, ap, sym, subst}
-use Rattle.std.specs.Prelude.{All, Contains, Result, Ok, Err, IfOk, unwrap_or}
+use Rattle.std.proofs.Common.{◌≡◌, ◌∙◌, ℕ, ◌≤◌, List, map, Option, ap, sym, subst}
+use Rattle.std.specs.Prelude.{Result, Ok, Err, IfOk, unwrap_or}
 use Rattle.std.proofs.lemmas.List.Elements.{All-contains}
 use Rattle.sat_base.specs.Lit.{IsTautology, greatest_of, greatest_of_all}
 use Rattle.sat_base.specs.declared.origins.Ref.{Ref}

@@ -1,6 +1,6 @@
 -- A session that publishes a step.
-use Rattle.std.proofs.Common.{◌≡◌, ◌≢◌, ◌∙◌, ℕ, zero, suc, ◌+◌, ◌-◌, ◌<◌, ◌≤◌, List, [], ◌∷◌, ◌++◌, length, map, max, Option, None, Some, Bool, true, false, refl, ap, sym, subst, inl, inr, arith, get_or}
-use Rattle.std.specs.Prelude.{◌⊎◌, ◌↔◌, Contains, AllPairs, IsSome, ◌==◌, cond, slice_get, option_map, option_and_then, replicate}
+use Rattle.std.proofs.Common.{◌≡◌, ◌≢◌, ◌∙◌, ℕ, zero, suc, ◌+◌, ◌-◌, ◌<◌, ◌≤◌, List, [], ◌∷◌, ◌++◌, length, map, Option, None, Some, Bool, true, false, refl, ap, sym, subst, inl, inr, arith}
+use Rattle.std.specs.Prelude.{◌⊎◌, Contains, AllPairs, IsSome, ◌==◌, cond, slice_get, option_map, option_and_then, replicate}
 use Rattle.std.specs.List.{AllZip}
 use Rattle.std.specs.Option.{option_flatten}
 use Rattle.std.proofs.lemmas.Bool.{cases_eq}
@@ -9,12 +9,12 @@ use Rattle.std.proofs.lemmas.Option.{none-some, slice_get-get_or}
 use Rattle.std.proofs.lemmas.List.{get_or_append_left, get_or_push, length_push}
 use Rattle.std.proofs.lemmas.List.Elements.{Contains-append_cases}
 use Rattle.sat_base.specs.declared.origins.Ref.{Ref}
-use Rattle.sat_base.specs.declared.origins.Ref.TheVariants.{Shared, Own}
+use Rattle.sat_base.specs.declared.origins.Ref.TheVariants.{Shared}
 use Rattle.sat_base.proofs.Members.{Contains-here, Contains-there, Contains-cases}
 use Rattle.trace_core.specs.Known.{Known, known, item_at}
 use Rattle.trace_core.specs.Trace.{known_of}
 use Rattle.trace_core.specs.declared.derivation.Step.{Step}
-use Rattle.trace_trim.specs.Packed.{AreNamesRight, AreNumbersPacked, CiteEarlierOwn, IsPack, IsPackedStep, RestsOn, name_of}
+use Rattle.trace_trim.specs.Packed.{AreNumbersPacked, CiteEarlierOwn, IsPack, IsPackedStep, RestsOn, name_of}
 use Rattle.trace_trim.specs.Reached.{IsReached}
 use Rattle.trace_trim.proofs.Order.{item_at-within}
 use Rattle.trace_trim.proofs.OwnWalk.{unnamed-own}

@@ -1,17 +1,23 @@
 //! Small problems, loaded and solved.
 
-ghost use Rattle.std.specs.Prelude.{◌≡◌, ◌+◌, ◌<◌, [], Some, Contains, None, IfOk, IfSome};
-ghost use Rattle.sat_base.specs.Lit.{IsTautology};
+ghost use Rattle.std.specs.Prelude.{◌≡◌, ◌≤◌, [], ◌∷◌, Contains, IfOk};
+ghost use Rattle.std.specs.Arc.{arc_value};
+ghost use Rattle.sat_base.specs.Lit.{IsTautology, code_of};
+ghost use Rattle.sat_base.specs.declared.origins.Ref.TheVariants.{Input};
 ghost use Rattle.trace_core.specs.Known.{Known};
-ghost use Rattle.search_core.specs.Solver.{IsStep, packet_at};
+ghost use Rattle.search_core.specs.Solver.{IsSound, IsStep};
+ghost use Rattle.search_core.specs.Loading.{loaded, tagged};
+ghost use Rattle.search_core.specs.Sharing.{IsTakable};
+ghost use Rattle.session.specs.Session.{no_inputs};
 
 use crate::Session;
-use sat_base::{Clause, Cube, Lit};
+use sat_base::{Clause, Cube, Lit, Ref};
 use search_core::{Answer, Round};
 use std::alloc::{AllocError, Global};
 use std::process::Abort;
 use std::sync::Arc;
 use std::test::Fail;
+use trace_core::{Hints, Packet, Step, Steps};
 
 fn lits(alloc: Global, rt: &impl Abort, numbers: &[i32]) -> Result<Vec<Lit>, AllocError> {
     let mut lits = Vec::new(alloc);
@@ -29,25 +35,27 @@ fn cube(alloc: Global, rt: &impl Abort, numbers: &[i32]) -> Result<Cube, AllocEr
     Cube::from_lits(alloc, &lits(alloc, rt, numbers)?)
 }
 
-// Loads a job.
-fn load(
+// A session that is loaded with these inputs, before any round.
+fn start(
+    alloc: Global,
     rt: &impl Abort,
-    session: &mut Session,
     clauses: &[Clause],
     cube: &Cube,
-) -> Result<(), AllocError> {
-    assert!(rt; session.inputs() as usize + clauses.len() <= 16_777_216);
-    assert!(rt; session.bound() < 1_048_576);
-    session.load(clauses, cube)
+) -> Result<Session, AllocError>
+    ensures { IfOk result (λ session. session ≡ record { solver = loaded no_inputs clauses.now; names = [] }) }
+{
+    assert!(rt; clauses.len() <= 16_777_216);
+    let mut session = Session::new(alloc, 0);
+    session.load(clauses, cube)?;
+    Ok(session)
 }
 
 #[test]
 fn a_part_is_refuted_and_the_session_goes_on(rt: HostRuntime) -> Result<(), Fail> {
     let alloc = rt.alloc();
-    let mut session = Session::new(alloc, 0);
     let clauses = [clause(alloc, &rt, &[1])?, clause(alloc, &rt, &[-1, 2])?];
     let against = cube(alloc, &rt, &[-2])?;
-    load(&rt, &mut session, &clauses, &against)?;
+    let mut session = start(alloc, &rt, &clauses, &against)?;
     assert_eq!(rt; session.bound(), 1);
     assert_eq!(rt; session.inputs(), 2);
     match session.solve(&against, 256)? {
@@ -67,5 +75,168 @@ fn a_part_is_refuted_and_the_session_goes_on(rt: HostRuntime) -> Result<(), Fail
         }
         _ => assert!(rt; false),
     }
+    Ok(())
+}
+
+fn lit(rt: &impl Abort, number: i32) -> Lit
+    ensures { result ≡ code_of number }
+{
+    Lit::of(number).expect(rt, "a literal")
+}
+
+// A session over these inputs that took the packet of place 1 in.
+fn informed(
+    alloc: Global,
+    rt: &impl Abort,
+    clauses: &[Clause],
+    cube: &Cube,
+    packet: &Arc<Packet>,
+) -> Result<Session, AllocError>
+    requires { (one : Known) × IsTakable (loaded no_inputs clauses.now) (arc_value packet.now) one }
+{
+    let mut session = start(alloc, rt, clauses, cube)?;
+    session.import(1, packet)?;
+    assert!(rt; session.knows(1));
+    assert!(rt; !session.knows(2));
+    Ok(session)
+}
+
+// The inputs 1 and -1 2.
+fn forcing(alloc: Global, rt: &impl Abort) -> Result<Vec<Clause>, AllocError>
+    ensures { IfOk result (λ clauses. clauses.items ≡ (2 ∷ []) ∷ (3 ∷ 4 ∷ []) ∷ []) }
+{
+    let first = Clause::of_ascending(vec![in alloc; lit(rt, 1)]?);
+    let second = Clause::of_ascending(vec![in alloc; lit(rt, -1), lit(rt, 2)]?);
+    Ok(vec![in alloc; first, second]?)
+}
+
+// The packet of the clause 2, which the inputs 1 and -1 2 prove.
+fn packet_of_2(alloc: Global, rt: &impl Abort) -> Result<Arc<Packet>, AllocError>
+    ensures { IfOk result (λ packet. arc_value packet ≡ record { clause = 4 ∷ []; hints = Input 1 ∷ Input 2 ∷ []; tag = 1 } ∷ []) }
+{
+    let step = Step {
+        clause: Clause::of_ascending(vec![in alloc; lit(rt, 2)]?),
+        hints: Hints::of(vec![in alloc; Ref::Input(1), Ref::Input(2)]?),
+        tag: 1,
+    };
+    let steps = Steps::of(vec![in alloc; step]?);
+    Ok(Arc::new(alloc, Packet { steps })?)
+}
+
+#[test]
+fn a_clause_is_taken_in_before_any_round(rt: HostRuntime) -> Result<(), Fail> {
+    let alloc = rt.alloc();
+    let clauses = forcing(alloc, &rt)?;
+    let packet = packet_of_2(alloc, &rt)?;
+    let against = cube(alloc, &rt, &[-2])?;
+    let mut session = informed(alloc, &rt, &clauses, &against, &packet)?;
+    match session.solve(&against, 256)? {
+        Round::Refuted(part, _) => {
+            assert_eq!(rt; part.lits(), [lit(&rt, -2)].as_slice());
+        }
+        _ => panic!(rt; "not refuted"),
+    }
+    Ok(())
+}
+
+// Three pigeons in two holes: variable 2p - 1 says that pigeon p sits in the first hole, 2p in the second.
+fn pigeons(alloc: Global, rt: &impl Abort) -> Result<Vec<Clause>, AllocError> {
+    let rows = [
+        [1, 2],
+        [3, 4],
+        [5, 6],
+        [-1, -3],
+        [-1, -5],
+        [-3, -5],
+        [-2, -4],
+        [-2, -6],
+        [-4, -6],
+    ];
+    let mut clauses = Vec::new(alloc);
+    for row in rows {
+        clauses.push(clause(alloc, rt, &row)?)?;
+    }
+    Ok(clauses)
+}
+
+// A session over these inputs that paused after it had learnt one clause.
+fn paused(alloc: Global, rt: &impl Abort, clauses: &[Clause]) -> Result<Session, AllocError>
+    ensures inputs { IfOk result (λ session. session.solver.inputs ≡ tagged 1 clauses.now) }
+    ensures bound { IfOk result (λ session. session.solver.bound ≡ 1) }
+{
+    let free = Cube::of_ascending(Vec::new(alloc));
+    let mut session = start(alloc, rt, clauses, &free)?;
+    match session.solve(&free, 1)? {
+        Round::Paused => Ok(session),
+        _ => panic!(rt; "not paused"),
+    }
+}
+
+// The number of the first learnt step.
+fn first_learnt(rt: &impl Abort, session: &Session) -> u64
+    ensures own { (one : Known) × IsStep session.now.solver.steps result one × (IsTautology one.clause → ⊥) }
+    ensures held { (one : Known) × IsStep session.now.solver.steps result one × Contains session.now.solver.held one }
+    ensures sound { IsSound session.now.solver }
+{
+    let learnt = session.learnt();
+    assert!(rt; learnt.len() > 0);
+    let number = learnt[0];
+    let steps = session.steps();
+    assert!(rt; number > 0);
+    assert!(rt; number as usize <= steps.len());
+    let step = &steps[number as usize - 1];
+    if step.clause.is_tautology() {
+        panic!(rt; "a tautology was learnt");
+    }
+    number
+}
+
+// Publishes the first learnt step under a place that isn't known, and answers its packet, which a session over the same
+// inputs may take in.
+fn share_first(
+    alloc: Global,
+    rt: &impl Abort,
+    session: &mut Session,
+    place: u32,
+) -> Result<Arc<Packet>, AllocError>
+    requires place { 1 ≤ place }
+    ensures takable { IfOk result (λ packet. (one : Known) × IsTakable session.old.solver (arc_value packet) one) }
+{
+    assert!(rt; !session.knows(place));
+    let step = first_learnt(rt, session);
+    let packet = Arc::new(alloc, session.packet(step)?)?;
+    session.published(step, place, &packet)?;
+    Ok(packet)
+}
+
+// Publishes at place 1 what a session over these inputs has learnt when it pauses after one clause.
+fn published(alloc: Global, rt: &impl Abort, clauses: &[Clause]) -> Result<Arc<Packet>, AllocError>
+    ensures { IfOk result (λ packet. (one : Known) × IsTakable (loaded no_inputs clauses.now) (arc_value packet) one) }
+{
+    let mut session = paused(alloc, rt, clauses)?;
+    assert!(rt; session.learnt().len() == 1);
+    let packet = share_first(alloc, rt, &mut session, 1)?;
+    assert!(rt; session.knows(1));
+    assert!(rt; !session.knows(2));
+    Ok(packet)
+}
+
+#[test]
+fn a_published_clause_spares_another_session_its_search(rt: HostRuntime) -> Result<(), Fail> {
+    let alloc = rt.alloc();
+    let clauses = pigeons(alloc, &rt)?;
+    let clauses = clauses.as_slice();
+    let packet = published(alloc, &rt, clauses)?;
+    let steps = packet.steps.items();
+    assert_eq!(rt; steps.len(), 1);
+    assert_eq!(rt; steps[0].clause.lits(), [lit(&rt, -2)].as_slice());
+    assert_eq!(rt; steps[0].tag, 1);
+    let free = cube(alloc, &rt, &[])?;
+    let mut session = informed(alloc, &rt, clauses, &free, &packet)?;
+    match session.solve(&free, 1)? {
+        Round::Refuted(part, _) => assert_eq!(rt; part.lits().len(), 0),
+        _ => panic!(rt; "not refuted"),
+    }
+    assert_eq!(rt; session.learnt().len(), 0);
     Ok(())
 }

@@ -1,4 +1,4 @@
-use Rattle.std.proofs.Common.{◌≡◌, ◌<◌, ◌≤◌, length, refl, arith, get_or}
+use Rattle.std.proofs.Common.{◌≤◌, length, refl, arith, get_or}
 use Rattle.session.proofs.Naming.{naming_starts, naming_next, naming_done, is_among}
 use Rattle.session.proofs.publishing.name_steps.Goals as goal
 

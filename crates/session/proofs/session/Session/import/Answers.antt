@@ -1,4 +1,4 @@
-use Rattle.std.proofs.Common.{◌≡◌, ◌∙◌, ap}
+use Rattle.std.proofs.Common.{◌∙◌, ap}
 use Rattle.std.specs.Arc.{arc_value}
 use Rattle.search_core.specs.Solver.{packet_at}
 use Rattle.search_core.specs.Searching.{solver_of}
