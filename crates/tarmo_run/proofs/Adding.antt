@@ -1,6 +1,5 @@
 -- Statements that become jobs, one after another.
-use Rattle.std.proofs.Common.{◌≡◌, ◌∙◌, ℕ, ◌+◌, List, [], ◌∷◌, ◌++◌, refl, ap, sym, subst, append_assoc, append-nil}
-use Rattle.sat_base.specs.Lit.{IsLit}
+use Rattle.std.proofs.Common.{◌≡◌, ◌∙◌, ℕ, List, [], ◌∷◌, ◌++◌, refl, ap, sym, subst, append_assoc, append-nil}
 use Rattle.entry_core.specs.declared.segments.Segment.{Segment}
 use Rattle.entry_core.specs.Journal.{segments}
 use Rattle.board_core.specs.State.{State}

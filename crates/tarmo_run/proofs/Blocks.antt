@@ -1,5 +1,5 @@
 -- The blocks of settled jobs.
-use Rattle.std.proofs.Common.{◌≡◌, ◌∙◌, ℕ, suc, ◌+◌, ◌≤◌, ◌<◌, Bool, true, false, List, [], ◌∷◌, ◌++◌, length, map, take, Option, Some, None, refl, ap, sym, subst, arith, add-one, append_assoc, append-nil, cond}
+use Rattle.std.proofs.Common.{◌≡◌, ◌∙◌, ℕ, suc, ◌+◌, ◌≤◌, Bool, true, false, List, [], ◌∷◌, ◌++◌, length, map, take, Option, Some, refl, ap, sym, subst, arith, add-one, append_assoc, append-nil, cond}
 use Rattle.std.specs.Prelude.{filter, nat_le, max}
 use Rattle.std.specs.Arc.{arc_value}
 use Rattle.std.proofs.lemmas.List.{length-append, length-map, map-append}
@@ -8,7 +8,6 @@ use Rattle.run_io.specs.Bytes.{appended}
 use Rattle.run_io.proofs.Laws.{appended_twice}
 use Rattle.sat_base.specs.Lit.{IsLitSet, greatest_of, greatest_of_all}
 use Rattle.trace_core.specs.Known.{Known, item_at}
-use Rattle.trace_core.specs.Law.{clauses_up_to}
 use Rattle.entry_core.specs.declared.answers.Answer.{Answer}
 use Rattle.entry_core.specs.declared.answers.Answer.TheVariants as answer
 use Rattle.entry_core.specs.declared.answers.Verdict.{Verdict}
@@ -21,18 +20,16 @@ use Rattle.entry_core.specs.Journal.{clauses_of, cube_in, cube_of, inputs, input
 use Rattle.entry_core.specs.Law.{VerdictsHaveCauses}
 use Rattle.entry_core.specs.Legal.{IsLegal}
 use Rattle.entry_core.specs.Right.{IsRightAnswer}
-use Rattle.entry_core.specs.Settled.{settled}
 use Rattle.entry_core.proofs.Inputs.{inputs_of_one_more}
 use Rattle.entry_core.proofs.Limits.{few_inputs}
-use Rattle.board_core.specs.Replies.{HasVerdict, IsJob, IsSame}
+use Rattle.board_core.specs.Replies.{HasVerdict, IsSame}
 use Rattle.board_core.specs.State.{State}
 use Rattle.verdict_text.specs.Block.{IsBlock, IsPrintable, shown_of, shown_of_answer}
 use Rattle.verdict_text.specs.declared.blocks.Shown.{Shown}
 use Rattle.tarmo_run.specs.declared.desk.Desk.{Desk}
-use Rattle.tarmo_run.specs.declared.words.Command.{Command}
 use Rattle.tarmo_run.specs.Block.{AreBlocks, IsBlockOf}
-use Rattle.tarmo_run.specs.Desk.{IsDue, IsReady, clauses_behind, clauses_read}
-use Rattle.tarmo_run.specs.Written.{HasWritten, TookBlocks, TookFront}
+use Rattle.tarmo_run.specs.Desk.{clauses_behind, clauses_read}
+use Rattle.tarmo_run.specs.Written.{TookBlocks, TookFront}
 use Rattle.tarmo_run.proofs.Cited.{ok_cite_earlier}
 use Rattle.tarmo_run.proofs.Desks.{within_set}
 

@@ -1,5 +1,5 @@
 -- What stays of a board when entries come behind its own.
-use Rattle.std.proofs.Common.{◌≡◌, ◌∙◌, ℕ, zero, suc, ◌+◌, ◌≤◌, Bool, Some, None, List, [], ◌∷◌, ◌++◌, length, refl, ap, sym, subst, arith, append_assoc, append-nil}
+use Rattle.std.proofs.Common.{◌≡◌, ◌∙◌, ℕ, zero, suc, ◌≤◌, Bool, Some, None, List, [], ◌∷◌, ◌++◌, length, refl, ap, sym, subst, arith, append_assoc, append-nil}
 use Rattle.std.specs.Prelude.{All, IsSome, Option, filter_map, IsTrue, not, ◌==◌}
 use Rattle.std.specs.List.{cons_option}
 use Rattle.std.proofs.lemmas.List.Elements.{All-head, All-tail, filter_map-append}
@@ -9,13 +9,11 @@ use Rattle.entry_core.specs.declared.entries.Entry.{Entry}
 use Rattle.entry_core.specs.declared.entries.Event.{Event}
 use Rattle.entry_core.specs.declared.entries.Event.TheVariants as event
 use Rattle.entry_core.specs.declared.rules.Rules.{Rules}
-use Rattle.entry_core.specs.Attempts.{Attempt, attempt, attempts, begun_by, ended, ended_by, is_open}
+use Rattle.entry_core.specs.Attempts.{Attempt, attempts, begun_by, ended, ended_by}
 use Rattle.entry_core.specs.Journal.{jobs, segment_of, segments, inputs_of}
 use Rattle.entry_core.specs.Law.{Keeps}
-use Rattle.entry_core.specs.Legal.{IsRunning}
 use Rattle.entry_core.specs.Settled.{cancelled, cancelled_by, settled}
 use Rattle.entry_core.proofs.LongerJournals.{longer_journal_keeps, segments-append}
-use Rattle.board_core.specs.Replies.{IsJob, IsOwn}
 use Rattle.board_core.specs.State.{State, entered}
 use Rattle.board_core.proofs.Readings.{unread}
 use Rattle.board_core.proofs.Changes.{same_attempts}

@@ -1,6 +1,6 @@
 -- What cancelling the jobs of a board does.
-use Rattle.std.proofs.Common.{◌≡◌, ◌∙◌, ℕ, suc, ◌+◌, ◌<◌, ◌≤◌, Bool, true, false, Option, Some, None, List, [], ◌∷◌, ◌++◌, length, refl, ap, sym, subst, arith, inl, inr}
-use Rattle.std.specs.Prelude.{◌⊎◌, ◌≢◌, Result, Ok, Err, IsSome, IfErr, OnOk, OnErr, nat_le, ◌==◌, ◌||◌}
+use Rattle.std.proofs.Common.{◌≡◌, ◌∙◌, ℕ, ◌+◌, ◌≤◌, Bool, true, false, Option, Some, None, List, [], ◌∷◌, ◌++◌, length, refl, ap, sym, subst, arith, inl, inr}
+use Rattle.std.specs.Prelude.{◌⊎◌, ◌≢◌, Result, Ok, Err, IsSome, IfErr, OnOk, OnErr, ◌==◌, ◌||◌}
 use Rattle.std.specs.List.{list_any}
 use Rattle.std.proofs.lemmas.Bool.Decides.{nat_tests}
 use Rattle.std.proofs.lemmas.List.Elements.{filter_map-append}
@@ -8,8 +8,7 @@ use Rattle.entry_core.specs.declared.answers.Verdict.{Verdict}
 use Rattle.entry_core.specs.declared.answers.Verdict.TheVariants as verdict
 use Rattle.entry_core.specs.declared.entries.Entry.{Entry}
 use Rattle.entry_core.specs.declared.entries.Event.TheVariants as event
-use Rattle.entry_core.specs.declared.rules.Rules.{Rules}
-use Rattle.entry_core.specs.Journal.{jobs, segments}
+use Rattle.entry_core.specs.Journal.{jobs}
 use Rattle.entry_core.specs.Settled.{answer_to, cancelled, cancelled_by, given_if, or_else, settled, standing}
 use Rattle.board_core.specs.declared.faults.CancelFault.{CancelFault}
 use Rattle.board_core.specs.declared.faults.CancelFault.TheVariants as fault

@@ -1,21 +1,17 @@
 -- What a desk keeps when its board grows.
-use Rattle.std.proofs.Common.{◌≡◌, ◌∙◌, ℕ, ◌+◌, ◌≤◌, Some, None, List, [], ◌∷◌, ◌++◌, length, refl, ap, sym, subst, arith, append_assoc, append-nil}
-use Rattle.std.specs.Prelude.{max, All}
+use Rattle.std.proofs.Common.{◌≡◌, ◌∙◌, ℕ, ◌≤◌, List, [], ◌∷◌, ◌++◌, length, ap, sym, subst, arith, append_assoc, append-nil}
+use Rattle.std.specs.Prelude.{All}
 use Rattle.std.proofs.lemmas.List.Elements.{All-head, All-tail}
 use Rattle.sat_base.specs.Lit.{IsLit, IsLitSet, greatest_of, greatest_of_all}
-use Rattle.entry_core.specs.declared.entries.Entry.{Entry}
 use Rattle.entry_core.specs.declared.segments.Segment.{Segment}
-use Rattle.entry_core.specs.Attempts.{begun_by, ended_by}
 use Rattle.entry_core.specs.Journal.{jobs, segments, inputs_of}
 use Rattle.entry_core.specs.Settled.{cancelled}
 use Rattle.board_core.specs.State.{State}
 use Rattle.attempt_core.specs.Fits.{Fits}
 use Rattle.worker_loop.specs.Working.{HasAttemptsMore, IsResting}
-use Rattle.icnf_text.specs.declared.statements.Numbered.{Numbered}
-use Rattle.icnf_text.specs.Jobs.{Job}
 use Rattle.tarmo_run.specs.declared.desk.Desk.{Desk}
 use Rattle.tarmo_run.specs.declared.words.Command.{Command}
-use Rattle.tarmo_run.specs.Desk.{HasEntriesMore, HasNoJobMore, IsLonger, IsReady, clauses_behind, clauses_read, queries_of}
+use Rattle.tarmo_run.specs.Desk.{HasNoJobMore, IsLonger, IsReady, clauses_behind, clauses_read}
 use Rattle.tarmo_run.proofs.Boards.{fits_longer, inputs_stay, more_jobs, work_adds_none, work_cancels_none}
 use Rattle.tarmo_run.proofs.Queries.{clauses_behind-append}
 

@@ -1,12 +1,11 @@
 -- From the pieces of a text to the whole output, and to the board that is given back.
-use Rattle.std.proofs.Common.{◌≡◌, ◌∙◌, ℕ, ◌+◌, ◌≤◌, List, [], ◌++◌, length, take, Option, Bool, refl, ap, sym, subst, arith, inl, inr}
+use Rattle.std.proofs.Common.{◌≡◌, ◌∙◌, ℕ, ◌+◌, ◌≤◌, List, [], ◌++◌, length, take, Option, Bool, refl, ap, sym, subst, inl, inr}
 use Rattle.std.specs.Prelude.{◌⊎◌}
-use Rattle.std.proofs.lemmas.List.{length-append, take-append-le}
+use Rattle.std.proofs.lemmas.List.{take-append-le}
 use Rattle.std.proofs.Math.Seq.{take-append-add}
 use Rattle.run_io.specs.Bytes.{appended}
 use Rattle.run_io.proofs.Laws.{appended_nothing, appended_twice}
-use Rattle.entry_core.specs.declared.entries.Entry.{Entry}
-use Rattle.entry_core.specs.Journal.{jobs, segments}
+use Rattle.entry_core.specs.Journal.{jobs}
 use Rattle.entry_core.specs.Legal.{IsLegal}
 use Rattle.entry_core.specs.Settled.{cancelled}
 use Rattle.board_core.specs.State.{State}
@@ -18,7 +17,7 @@ use Rattle.tarmo_run.specs.declared.words.Command.{Command}
 use Rattle.tarmo_run.specs.Block.{AreBlocks}
 use Rattle.tarmo_run.specs.Desk.{HasNoJobMore, IsDone, IsFresh, queries_behind, queries_of}
 use Rattle.tarmo_run.specs.Ended.{Finished, FinishedInPart}
-use Rattle.tarmo_run.specs.Output.{AreSettled, IsEnding, IsOutput, IsRun, PutFirst, Reading, UnlessExhausted, WroteAll, WroteFront, last_line_of, queries_in, status_of}
+use Rattle.tarmo_run.specs.Output.{AreSettled, IsEnding, IsOutput, IsRun, PutFirst, Reading, UnlessExhausted, last_line_of, queries_in, status_of}
 use Rattle.tarmo_run.specs.Reading.{IsBegun, IsThrough, ReadsInPart, ReadsThrough}
 use Rattle.tarmo_run.specs.Words.{rules_of}
 use Rattle.tarmo_run.specs.Written.{HasWritten, TookFront, TookFrontOfLine}

@@ -1,13 +1,11 @@
 -- A job more on the board.
-use Rattle.std.proofs.Common.{◌≡◌, ◌∙◌, ℕ, List, [], ◌∷◌, ◌++◌, Some, None, refl, ap, sym, subst}
-use Rattle.std.specs.Prelude.{Result, Ok, Err, OnOk, OnErr}
+use Rattle.std.proofs.Common.{◌≡◌, ◌∙◌, ℕ, [], ◌∷◌, ◌++◌, refl, ap, sym, subst}
 use Rattle.std.specs.Arc.{arc_value}
 use Rattle.std.specs.declared.sync.Arc.{Arc}
 use Rattle.std.specs.declared.alloc.Global.{Global}
 use Rattle.entry_core.specs.declared.entries.Entry.{Entry}
 use Rattle.entry_core.specs.declared.entries.Event.TheVariants as event
 use Rattle.entry_core.specs.declared.segments.Segment.{Segment}
-use Rattle.entry_core.specs.Attempts.{begun_by, ended_by}
 use Rattle.entry_core.specs.Journal.{segment_of, segments}
 use Rattle.entry_core.specs.Settled.{cancelled, cancelled_by}
 use Rattle.board_core.specs.State.{State, entered}

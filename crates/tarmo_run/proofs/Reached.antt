@@ -1,5 +1,5 @@
 -- A text that is read and answered piece by piece.
-use Rattle.std.proofs.Common.{◌≡◌, ◌∙◌, ℕ, ◌+◌, ◌-◌, ◌<◌, ◌≤◌, List, [], ◌++◌, length, take, Option, Some, None, Bool, true, false, nat_eq, nat_lt, refl, ap, sym, subst, arith, append-nil, inl, inr}
+use Rattle.std.proofs.Common.{◌≡◌, ◌∙◌, ℕ, ◌-◌, ◌<◌, ◌≤◌, List, [], ◌++◌, length, take, Option, Some, None, Bool, true, false, nat_eq, nat_lt, refl, ap, sym, subst, arith, append-nil, inl, inr}
 use Rattle.std.specs.Prelude.{◌⊎◌, ◌||◌, Result, Ok, Err, IfOk, OnErr, MatchOption}
 use Rattle.std.proofs.lemmas.Bool.{and_left, ne_eqb, or_from, lt-ltb}
 use Rattle.std.proofs.lemmas.Bool.Decides.{nat_tests}
@@ -20,7 +20,7 @@ use Rattle.tarmo_run.specs.declared.desk.Desk.{Desk}
 use Rattle.tarmo_run.specs.declared.endings.Ending.{Ending}
 use Rattle.tarmo_run.specs.declared.endings.Ending.TheVariants.{Complete, Refused, Unread, Exhausted}
 use Rattle.tarmo_run.specs.Desk.{HasEntriesMore, IsDone, IsFresh, clauses_behind, clauses_read, queries_behind, queries_of}
-use Rattle.tarmo_run.specs.Output.{Reading, queries_in, unnumbered}
+use Rattle.tarmo_run.specs.Output.{queries_in, unnumbered}
 use Rattle.tarmo_run.specs.Reading.{Adds, AddsFirst, IsBegun, IsCaughtUp, IsThrough, ReadsInPart, ReadsThrough, StopsBy}
 use Rattle.tarmo_run.specs.Block.{AreBlocks}
 use Rattle.tarmo_run.specs.Written.{HasWritten}
@@ -41,10 +41,10 @@ told : (old new : Desk) (first list all : List Numbered) → first ++ list ≡ a
     → (queries_of new ≡ jobs_of (unnumbered all)) × (clauses_read new ≡ clauses_of (unnumbered all))
 told old new first list all whole queries clauses adds = (
   adds.queries ∙ ap (λ (jobs : List Job). jobs ++ jobs_after (clauses_read old) (unnumbered list)) queries
-  ∙ ap (λ (read : List (List ℕ)). jobs_of (unnumbered first) ++ jobs_after read (unnumbered list)) clauses
-  ∙ sym (more_jobs [] first list) ∙ ap (λ (list : List Numbered). jobs_of (unnumbered list)) whole,
+      ∙ ap (λ (read : List (List ℕ)). jobs_of (unnumbered first) ++ jobs_after read (unnumbered list)) clauses
+      ∙ sym (more_jobs [] first list) ∙ ap (λ (list : List Numbered). jobs_of (unnumbered list)) whole,
   adds.clauses ∙ ap (λ (read : List (List ℕ)). clauses_after read (unnumbered list)) clauses
-  ∙ sym (more_clauses [] first list) ∙ ap (λ (list : List Numbered). clauses_of (unnumbered list)) whole,
+      ∙ sym (more_clauses [] first list) ∙ ap (λ (list : List Numbered). clauses_of (unnumbered list)) whole,
 )
 
 begun_by : (old new : Desk) (first list all : List Numbered) → first ++ list ≡ all → queries_of old ≡ jobs_of (unnumbered first) → clauses_read old ≡ clauses_of (unnumbered first) → (added : AddsFirst old new list)

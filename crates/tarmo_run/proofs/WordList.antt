@@ -1,5 +1,5 @@
 -- The words of a run, an option at a time.
-use Rattle.std.proofs.Common.{◌≡◌, ◌∙◌, ℕ, List, [], ◌∷◌, Option, Some, None, Bool, true, false, cond, refl, ap, sym}
+use Rattle.std.proofs.Common.{◌≡◌, ◌∙◌, ℕ, List, [], ◌∷◌, Option, Some, None, Bool, true, false, cond, refl, sym}
 use Rattle.std.specs.Prelude.{codes, bytes_eq, option_and_then, option_map}
 use Rattle.tarmo_run.specs.declared.words.Options.{Options}
 use Rattle.tarmo_run.specs.Words.{after_option, with_attempts, with_conflicts, with_trace, with_words}

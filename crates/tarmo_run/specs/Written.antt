@@ -1,5 +1,5 @@
 -- What the sink took before the last line.
-use Rattle.std.specs.Prelude.{◌≡◌, ◌≤◌, ◌⊎◌, ℕ, Bool, Option, List, length, take, MatchResult, OnErr, IfOk, Result}
+use Rattle.std.specs.Prelude.{◌≡◌, ◌≤◌, ◌⊎◌, ℕ, Bool, Option, List, length, take}
 use Rattle.run_io.specs.Bytes.{appended}
 use Rattle.entry_core.specs.Journal.{jobs}
 use Rattle.board_core.specs.State.{State}

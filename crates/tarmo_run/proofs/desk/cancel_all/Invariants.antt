@@ -1,5 +1,4 @@
-use Rattle.std.proofs.Common.{◌≡◌, ◌≤◌, ◌-◌}
-use Rattle.entry_core.specs.Journal.{jobs}
+use Rattle.std.proofs.Common.{◌≤◌, ◌-◌}
 use Rattle.tarmo_run.specs.Desk.{HasNoJobMore}
 use Rattle.tarmo_run.proofs.Cancelled.{AreSettledTo}
 use Rattle.tarmo_run.proofs.desk.cancel_all.Given as goal

@@ -1,4 +1,3 @@
-use Rattle.std.proofs.Common.{◌≡◌}
 use Rattle.std.specs.Vec.Iter.{into_iter_items}
 use Rattle.tarmo_run.specs.Desk.{HasEntriesMore, IsReady}
 use Rattle.tarmo_run.proofs.Adding.{AddsUpTo}

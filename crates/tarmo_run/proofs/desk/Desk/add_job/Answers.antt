@@ -1,7 +1,6 @@
 use Rattle.std.proofs.Common.{◌≡◌, [], refl, rules}
 use Rattle.std.specs.Arc.{arc_value}
 use Rattle.entry_core.specs.declared.entries.Event.TheVariants as event
-use Rattle.entry_core.specs.declared.segments.Segment.{Segment}
 use Rattle.board_core.specs.State.{entered}
 use Rattle.tarmo_run.proofs.Desks.{ready_emptied, ready_added}
 use Rattle.tarmo_run.proofs.Growing.{longer_by, one_segment_more, none_cancelled_by, rests_by}

@@ -1,6 +1,4 @@
-use Rattle.std.specs.Prelude.{OnOk}
-use Rattle.std.proofs.Common.{◌≡◌, ap, sym, refl, rules}
-use Rattle.entry_core.specs.declared.segments.Segment.{Segment}
+use Rattle.std.proofs.Common.{ap}
 use Rattle.tarmo_run.proofs.Adding.{adds_cube}
 use Rattle.tarmo_run.proofs.Results.{on_ok_weaker_two}
 use Rattle.tarmo_run.proofs.desk.Desk.add_one.Goals as goal

@@ -1,4 +1,4 @@
-use Rattle.tarmo_run.proofs.Blocks.{block_printable, block_right}
+use Rattle.tarmo_run.proofs.Blocks.{block_printable}
 use Rattle.tarmo_run.proofs.desk.Desk.block_of.Goals as goal
 
 pub block-requires-clause-printable : goal.block-requires-clause-printable

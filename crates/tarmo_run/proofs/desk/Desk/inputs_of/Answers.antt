@@ -1,7 +1,5 @@
-use Rattle.std.proofs.Common.{◌≡◌, ◌+◌, ◌≤◌, length, rules, arith}
-use Rattle.std.specs.Arc.{arc_value}
-use Rattle.trace_core.specs.Known.{item_at}
-use Rattle.entry_core.specs.Journal.{inputs_of, segments}
+use Rattle.std.proofs.Common.{◌≡◌, ◌+◌, length, arith}
+use Rattle.entry_core.specs.Journal.{inputs_of}
 use Rattle.tarmo_run.proofs.Blocks.{inputs_counted, inputs_few}
 use Rattle.tarmo_run.proofs.desk.Desk.inputs_of.Goals as goal
 

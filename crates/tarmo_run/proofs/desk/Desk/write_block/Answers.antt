@@ -1,5 +1,4 @@
-use Rattle.std.proofs.Common.{◌≤◌, length, subst, sym, arith}
-use Rattle.tarmo_run.specs.Block.{IsBlockOf}
+use Rattle.std.proofs.Common.{◌≤◌, length, arith}
 use Rattle.tarmo_run.proofs.Blocks.{broke_one, wrote_one}
 use Rattle.tarmo_run.proofs.desk.Desk.write_block.Goals as goal
 
