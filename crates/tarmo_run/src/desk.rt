@@ -157,13 +157,14 @@ impl Desk {
         let _ = self.board.close_input(CLIENT);
     }
 
-    /// Cancels each job that isn't settled, so that each is.
+    /// Says that no more jobs come, and cancels each job that isn't settled, so that each is.
     pub(crate) fn give_up(&mut self, command: Command)
         requires rules { self.old.board.rules ≡ rules_of command }
         ensures more { HasNoJobMore self.old.board self.new.board }
         ensures settled { AreSettled self.new.board }
         ensures parts { self.new ≡ record self.old { board = self.new.board } }
     {
+        self.close(command);
         cancel_all(&mut self.board);
     }
 }
