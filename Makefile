@@ -18,25 +18,25 @@ bench:
 
 # The reader beside cat, a C loop, and the parsers of minisat and cadical where they are installed.
 bench-reader:
-	cd crates/icnf_bench && rt run < stdin > /dev/null
+	cd crates/tarmo_bench && rt run > /dev/null
 	bench/reader.sh
 
 # A million steps of ten hints through the checker.
 bench-checker:
-	cd crates/trace_bench && rt run -- 1000000
+	cd crates/tarmo_bench && rt run -- checker 1000000
 
 # Trimming and printing a derivation of a million steps.
 bench-trace:
-	cd crates/trim_bench && rt run -- 1000000
+	cd crates/tarmo_bench && rt run -- trimming 1000000
 
 # A million jobs, each added, taken and ended.
 bench-board:
-	cd crates/board_bench && rt run -- 1000000
+	cd crates/tarmo_bench && rt run -- board 1000000
 
 # A million clauses learnt from one conflict behind a trail of a million literals.
 bench-learning:
-	cd crates/analyze_bench && rt run -- 1000000 1000000
+	cd crates/tarmo_bench && rt run -- learning 1000000 1000000
 
 # A hundred thousand holds of the lock beside std's Mutex, by 1, 2 and 4 threads.
 bench-lock:
-	cd crates/turn_lock_bench && rt run -- 100000
+	cd crates/tarmo_bench && rt run -- lock 100000

@@ -1,10 +1,10 @@
 #!/bin/sh
-# Times the iCNF reader beside cat, a plain C loop over the bytes, and what minisat and cadical say that their parsing
-# took, on one generated text of ternary clauses. Peers that are missing are skipped.
+# Times the iCNF reader beside cat, a plain C loop over the bytes, and what minisat and cadical say that
+# their parsing took, on one generated text of ternary clauses. Peers that are missing are skipped.
 #   bench/reader.sh [CLAUSES]
 clauses=${1:-1000000}
 top=$(cd "$(dirname "$0")/.." && pwd)
-reader=$top/crates/icnf_bench/out/icnf_bench
+bench=$top/crates/tarmo_bench/out/tarmo_bench
 folder=$(mktemp -d)
 trap 'rm -rf "$folder"' EXIT
 
@@ -35,7 +35,7 @@ report() {
         printf "%-22s %8.3f s %8.1f MB/s   %5.2f of the reader\n", name, ns / 1e9, bytes / (ns / 1e3), ns / base }'
 }
 
-base=$(best "$folder/text.icnf" "$reader")
+base=$(best "$folder/text.icnf" "$bench" reader)
 echo "$clauses clauses, $bytes bytes"
 report "tarmo's reader" "$base" "$base"
 report "cat" "$(best "$folder/text.icnf" cat)" "$base"

@@ -20,7 +20,7 @@ use Rattle.entry_core.specs.Attempts.{Attempt, begun_by, attempts, ended_by, is_
 use Rattle.entry_core.specs.Settled.{or_else, given_if, settled, settled_up_to, settled_jobs}
 use Rattle.entry_core.proofs.LongerJournals.{tagged-append}
 use Rattle.board_core.specs.declared.index.Ending.TheVariants as ending
-use Rattle.tournament.specs.declared.rank.Rank.{Rank}
+use Rattle.board_core.specs.declared.rank.Rank.{Rank}
 use Rattle.board_core.specs.declared.index.JobState.{JobState}
 use Rattle.board_core.specs.declared.index.Index.{Index}
 use Rattle.board_core.specs.Index.{new_job, or_new, state_at, IsEndingOf, IsStateOf, IsOrderly, IsIndexOf}

@@ -4,7 +4,7 @@ use Rattle.std.specs.Prelude.{sum_by, slice_set}
 use Rattle.std.specs.declared.alloc.Global.{Global}
 use Rattle.std.proofs.lemmas.Bool.Decides.{nat_tests}
 use Rattle.std.proofs.lemmas.List.{map_push, length-set}
-use Rattle.tournament.specs.declared.rank.Rank.{Rank}
+use Rattle.board_core.specs.declared.rank.Rank.{Rank}
 use Rattle.entry_core.specs.declared.entries.Entry.{Entry}
 use Rattle.entry_core.specs.declared.entries.Event.{Event}
 use Rattle.entry_core.specs.declared.entries.Event.TheVariants as event

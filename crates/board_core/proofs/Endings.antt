@@ -5,7 +5,7 @@ use Rattle.std.specs.Arc.{arc_value}
 use Rattle.std.specs.declared.sync.Arc.{Arc}
 use Rattle.std.specs.declared.alloc.Global.{Global}
 use Rattle.std.proofs.lemmas.Bool.Decides.{nat_tests}
-use Rattle.tournament.specs.declared.rank.Rank.{Rank}
+use Rattle.board_core.specs.declared.rank.Rank.{Rank}
 use Rattle.entry_core.specs.declared.answers.Answer.{Answer}
 use Rattle.entry_core.specs.declared.answers.Verdict.{Verdict}
 use Rattle.entry_core.specs.declared.answers.Verdict.TheVariants as verdict

@@ -4,10 +4,10 @@ use Rattle.std.specs.Prelude.{◌⊎◌}
 use Rattle.std.proofs.lemmas.Bool.{cases_lt}
 use Rattle.std.proofs.lemmas.List.{length_push, get_or_append_left}
 use Rattle.std.proofs.Math.ListN.{get_or-eq_default}
-use Rattle.tournament.specs.declared.rank.Rank.{Rank}
-use Rattle.tournament.specs.Rank.{earlier_of}
-use Rattle.tournament.specs.Tree.{standing_at, AreWonBut}
-use Rattle.tournament.proofs.Matches.{inner, leaf}
+use Rattle.board_core.specs.declared.rank.Rank.{Rank}
+use Rattle.board_core.specs.Rank.{earlier_of}
+use Rattle.board_core.specs.Tree.{standing_at, AreWonBut}
+use Rattle.board_core.proofs.Matches.{inner, leaf}
 
 other_place : (es : List (Option Rank)) (x : Option Rank) (place : ℕ) → place ≢ length es → get_or (es ++ x ∷ []) place None ≡ get_or es place None
 other_place es x place differs = at (cases_lt place (length es))

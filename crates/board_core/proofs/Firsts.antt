@@ -3,8 +3,8 @@ use Rattle.std.proofs.Common.{◌≡◌, ◌∙◌, ◌⊎◌, inl, inr, ℕ, ze
 use Rattle.std.specs.Prelude.{slice_get, option_map, is_some, nat_le, nat_lt, Contains}
 use Rattle.std.proofs.lemmas.Bool.Decides.{nat_tests}
 use Rattle.std.proofs.lemmas.Option.{slice_get-get_or, slice_get_within, get_or_from_slice_get}
-use Rattle.tournament.specs.declared.rank.Rank.{Rank}
-use Rattle.tournament.specs.Rank.{goes_before, IsFirst}
+use Rattle.board_core.specs.declared.rank.Rank.{Rank}
+use Rattle.board_core.specs.Rank.{goes_before, IsFirst}
 use Rattle.entry_core.specs.declared.entries.Entry.{Entry}
 use Rattle.entry_core.specs.declared.rules.Rules.{Rules}
 use Rattle.entry_core.specs.Attempts.{open_attempts, spent_attempts}

@@ -6,7 +6,7 @@ use Rattle.std.specs.declared.sync.Arc.{Arc}
 use Rattle.std.specs.declared.alloc.Global.{Global}
 use Rattle.std.proofs.lemmas.List.{length_push, length-set, length-map}
 use Rattle.std.proofs.lemmas.List.Sums.{count_by-le-length}
-use Rattle.tournament.specs.declared.rank.Rank.{Rank}
+use Rattle.board_core.specs.declared.rank.Rank.{Rank}
 use Rattle.trace_core.specs.declared.derivation.Packet.{Packet}
 use Rattle.entry_core.specs.declared.entries.Entry.{Entry}
 use Rattle.entry_core.specs.declared.entries.Event.TheVariants as event

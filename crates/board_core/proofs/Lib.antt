@@ -1,3 +1,6 @@
+pub mod Matches
+pub mod Roots
+pub mod Entrants
 pub mod Readings
 pub mod Verdicts
 pub mod Opened
@@ -13,3 +16,4 @@ pub mod Attempted
 pub mod Endings
 pub mod Ready
 pub mod Takes
+pub mod WorkedJob

@@ -4,9 +4,9 @@ use Rattle.std.specs.Prelude.{◌⊎◌}
 use Rattle.std.proofs.lemmas.Bool.{cases_lt, cases_eq}
 use Rattle.std.proofs.lemmas.Bool.Decides.{nat_tests}
 use Rattle.std.proofs.lemmas.List.{length-set, get_or-set_same, get_or-set_other}
-use Rattle.tournament.specs.declared.rank.Rank.{Rank}
-use Rattle.tournament.specs.Rank.{earlier_of}
-use Rattle.tournament.specs.Tree.{standing_at, IsWon, AreWonBut}
+use Rattle.board_core.specs.declared.rank.Rank.{Rank}
+use Rattle.board_core.specs.Rank.{earlier_of}
+use Rattle.board_core.specs.Tree.{standing_at, IsWon, AreWonBut}
 
 pub inner : (es ws : List (Option Rank)) (node : ℕ) → node < length ws → standing_at es ws node ≡ get_or ws node None
 inner es ws node lt = grind (arith, nat_tests)

@@ -5,10 +5,10 @@ use Rattle.std.proofs.lemmas.Bool.{cases_lt, cases_eq}
 use Rattle.std.proofs.lemmas.Bool.Decides.{nat_tests}
 use Rattle.std.proofs.lemmas.List.Elements.{Contains-get_or, All-get_or, All-from_get_or, All-contains}
 use Rattle.std.proofs.Math.ListN.{get_or-eq_default}
-use Rattle.tournament.specs.declared.rank.Rank.{Rank}
-use Rattle.tournament.specs.Rank.{earlier_of, goes_before, IsFirst}
-use Rattle.tournament.specs.Tree.{standing_at, AreWonBut, IsPlayed}
-use Rattle.tournament.proofs.Matches.{leaf}
+use Rattle.board_core.specs.declared.rank.Rank.{Rank}
+use Rattle.board_core.specs.Rank.{earlier_of, goes_before, IsFirst}
+use Rattle.board_core.specs.Tree.{standing_at, AreWonBut, IsPlayed}
+use Rattle.board_core.proofs.Matches.{leaf}
 
 -- the other doesn't go before the first
 abbrev pub IsNotBeaten : Option Rank → Option Rank → Type 0

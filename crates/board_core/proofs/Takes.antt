@@ -4,8 +4,8 @@ use Rattle.std.specs.Prelude.{slice_get, is_some, IsSome, if◌then◌else◌}
 use Rattle.std.specs.List.{list_any}
 use Rattle.std.proofs.lemmas.Bool.Decides.{nat_tests}
 use Rattle.trace_core.specs.Known.{item_at}
-use Rattle.tournament.specs.declared.rank.Rank.{Rank}
-use Rattle.tournament.specs.Rank.{IsFirst}
+use Rattle.board_core.specs.declared.rank.Rank.{Rank}
+use Rattle.board_core.specs.Rank.{IsFirst}
 use Rattle.entry_core.specs.declared.answers.Verdict.{Verdict}
 use Rattle.entry_core.specs.declared.entries.Entry.{Entry}
 use Rattle.entry_core.specs.declared.entries.Event.{Event}

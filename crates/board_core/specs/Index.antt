@@ -1,6 +1,7 @@
 -- The index of a board: readings of the journal.
-use Rattle.std.specs.Prelude.{◌||◌, nat_le, ◌≡◌, ℕ, suc, ◌+◌, ◌-◌, ◌≤◌, Option, None, Some, IsSome, is_some, List, [], ◌∷◌, map, length, filter_map, count_by, All, slice_get, option_and_then, if◌then◌else◌}
+use Rattle.std.specs.Prelude.{◌||◌, nat_le, ◌≡◌, ℕ, suc, ◌+◌, ◌-◌, ◌≤◌, Option, None, Some, IsSome, is_some, List, [], ◌∷◌, map, length, filter_map, count_by, All, slice_get, slice_index_or, option_and_then, if◌then◌else◌}
 use Rattle.std.specs.Arc.{arc_value}
+use Rattle.sat_base.specs.Limits.{most_jobs}
 use Rattle.trace_core.specs.Known.{item_at}
 use Rattle.entry_core.specs.declared.answers.Verdict.{Verdict}
 use Rattle.entry_core.specs.declared.answers.Verdict.TheVariants as verdict
@@ -14,8 +15,9 @@ use Rattle.entry_core.specs.Settled.{decisions, starved, settled, settled_jobs}
 use Rattle.board_core.specs.declared.index.Ending.{Ending}
 use Rattle.board_core.specs.declared.index.Ending.TheVariants as ending
 use Rattle.board_core.specs.declared.index.JobState.{JobState}
+use Rattle.board_core.specs.declared.index.Attempted.{Attempted}
 use Rattle.board_core.specs.declared.index.Index.{Index}
-use Rattle.tournament.specs.declared.rank.Rank.{Rank}
+use Rattle.board_core.specs.declared.rank.Rank.{Rank}
 
 -- the answer of a `Decided` entry
 abbrev pub answered_by : Event → Option Verdict
@@ -44,6 +46,31 @@ or_new (Some state) = state
 -- where the job of that number stands, which may come later
 abbrev pub state_at : List JobState → ℕ → JobState
 state_at states job = or_new (item_at states job)
+
+-- the job of an attempt, and where it stands
+abbrev pub attempted : Index → ℕ → Attempted
+attempted index number =
+    let job = slice_index_or index.attempts.items (number - 1) 0 in
+    record { job = job; state = state_at index.jobs.items job }
+
+-- an attempt that was begun, at a job that was added
+pub record HasAttempt (index : Index) (number : ℕ) : Type 0 where
+  pub from_one : 1 ≤ number
+  pub begun : number ≤ length index.attempts.items
+  pub job_from_one : 1 ≤ (attempted index number).job
+  pub added : (attempted index number).job ≤ length index.jobs.items
+
+-- a job with its rank, of whose attempts one may end
+pub record MayEnd (index : Index) (job : ℕ) : Type 0 where
+  pub from_one : 1 ≤ job
+  pub added : job ≤ length index.jobs.items
+  pub entered : length index.waiting ≡ length index.jobs.items
+  pub opened : 1 ≤ index.open_now
+
+-- what an index keeps beside jobs, ranks and open attempts
+abbrev pub ended_at : Index → Index → Index
+ended_at old new =
+    record old { jobs = new.jobs; waiting = new.waiting; open_now = old.open_now - 1 }
 
 pub record IsStateOf (rules : Rules) (journal : List Entry) (job : ℕ) (state : JobState) : Type 0 where
   pub open_now : state.open_now ≡ open_attempts journal job
@@ -83,7 +110,7 @@ room index = (length index.jobs.items - index.settled) + index.open_now + (if is
 -- counts that can be added
 pub record IsCountable (index : Index) : Type 0 where
   pub settled : index.settled ≤ length index.jobs.items
-  pub jobs : length index.jobs.items ≤ 1048576
+  pub jobs : length index.jobs.items ≤ most_jobs
   pub open_now : index.open_now ≤ 4294967295
 
 -- where a job stands among those that wait: it isn't settled, and its open and spent attempts are fewer than it may have

@@ -1,5 +1,6 @@
 -- What a board keeps.
 use Rattle.std.specs.Prelude.{◌≡◌, ◌+◌, ◌≤◌, false, List, length, vec_capacity}
+use Rattle.sat_base.specs.Limits.{most_clauses, most_jobs, most_literals, most_packets}
 use Rattle.entry_core.specs.declared.entries.Entry.{Entry}
 use Rattle.entry_core.specs.Journal.{jobs, inputs, literals, packets}
 use Rattle.entry_core.specs.Attempts.{attempts}
@@ -13,10 +14,10 @@ state_of a = record { rules = a.rules; journal = a.journal.items }
 
 -- numbers within their limits
 pub record AreFew (journal : List Entry) : Type 0 where
-  pub jobs : jobs journal ≤ 1048576
-  pub clauses : length (inputs journal) ≤ 16777216
-  pub literals : literals journal ≤ 33554432
-  pub packets : length (packets journal) ≤ 4194304
+  pub jobs : jobs journal ≤ most_jobs
+  pub clauses : length (inputs journal) ≤ most_clauses
+  pub literals : literals journal ≤ most_literals
+  pub packets : length (packets journal) ≤ most_packets
   pub attempts : length (attempts journal) ≤ 4294967295
 
 pub record IsKept (a : Inside) : Type 0 where

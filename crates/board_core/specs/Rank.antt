@@ -1,6 +1,6 @@
 -- Who goes first among the entrants of a tournament.
 use Rattle.std.specs.Prelude.{◌≡◌, ◌==◌, ◌&&◌, ◌||◌, nat_lt, Bool, false, if◌then◌else◌, List, All, Contains, Option, None, Some}
-use Rattle.tournament.specs.declared.rank.Rank.{Rank}
+use Rattle.board_core.specs.declared.rank.Rank.{Rank}
 
 -- fewer open attempts go first, then the smaller number
 abbrev pub goes_before : Rank → Rank → Bool

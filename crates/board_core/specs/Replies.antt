@@ -1,6 +1,7 @@
 -- When a board gives each of its replies.
 use Rattle.std.specs.Prelude.{true, Option, IsSome, ◌≡◌, ℕ, ◌+◌, ◌<◌, ◌≤◌, None, Some, length}
 use Rattle.std.specs.Arc.{arc_value}
+use Rattle.sat_base.specs.Limits.{most_clauses, most_jobs, most_literals, most_packets}
 use Rattle.entry_core.specs.declared.answers.Outcome.{Outcome}
 use Rattle.entry_core.specs.declared.answers.Verdict.{Verdict}
 use Rattle.entry_core.specs.declared.answers.Verdict.TheVariants as verdict
@@ -77,28 +78,28 @@ IsCancelFault board job (cancel.NoSuchJob number) = IsNoJob board job number
 IsCancelFault board job (cancel.Settled outcome) = HasOutcome board job outcome
 
 abbrev pub IsShareFault : State → ShareFault → Type 0
-IsShareFault board share.Full = length (packets board.journal) ≡ 4194304
+IsShareFault board share.Full = length (packets board.journal) ≡ most_packets
 IsShareFault board share.Memory = Unit {0}
 
 -- no job too many, no clause too many
 pub record HasRoomForJob (board : State) : Type 0 where
   pub open_yet : closing_place board.journal ≡ None
-  pub few_jobs : jobs board.journal < 1048576
+  pub few_jobs : jobs board.journal < most_jobs
 
 pub record HasRoomForClauses (board : State) (segment : Segment) : Type 0 where
   pub job : HasRoomForJob board
-  pub few_clauses : length (inputs board.journal) + length segment.clauses ≤ 16777216
+  pub few_clauses : length (inputs board.journal) + length segment.clauses ≤ most_clauses
 
 pub record HasRoomFor (board : State) (segment : Segment) : Type 0 where
   pub clauses : HasRoomForClauses board segment
-  pub few_literals : literals board.journal + segment_literals segment ≤ 33554432
+  pub few_literals : literals board.journal + segment_literals segment ≤ most_literals
 
 -- Each refusal comes where those before it don't.
 abbrev pub IsAddFault : State → Segment → AddFault → Type 0
 IsAddFault board segment (add.Closed place) = closing_place board.journal ≡ Some place
-IsAddFault board segment add.TooManyJobs = (closing_place board.journal ≡ None) × (jobs board.journal ≡ 1048576)
-IsAddFault board segment add.TooManyClauses = HasRoomForJob board × (16777216 < length (inputs board.journal) + length segment.clauses)
-IsAddFault board segment add.TooManyLiterals = HasRoomForClauses board segment × (33554432 < literals board.journal + segment_literals segment)
+IsAddFault board segment add.TooManyJobs = (closing_place board.journal ≡ None) × (jobs board.journal ≡ most_jobs)
+IsAddFault board segment add.TooManyClauses = HasRoomForJob board × (most_clauses < length (inputs board.journal) + length segment.clauses)
+IsAddFault board segment add.TooManyLiterals = HasRoomForClauses board segment × (most_literals < literals board.journal + segment_literals segment)
 IsAddFault board segment add.Memory = HasRoomFor board segment
 
 -- the job of an attempt, 0 where there is none

@@ -1,8 +1,8 @@
 -- A tree of matches: node 1 at its root, the children of node k are 2k and 2k + 1, and the entrants stand behind the inner nodes.
 use Rattle.std.specs.Prelude.{◌≡◌, ◌≢◌, ℕ, ◌+◌, ◌-◌, ◌*◌, ◌<◌, ◌≤◌, nat_lt, if◌then◌else◌, List, length, Option, None, slice_index_or}
-use Rattle.tournament.specs.declared.rank.Rank.{Rank}
-use Rattle.tournament.specs.declared.tree.Tournament.TheInside.{Inside}
-use Rattle.tournament.specs.Rank.{earlier_of}
+use Rattle.board_core.specs.declared.rank.Rank.{Rank}
+use Rattle.board_core.specs.declared.tournament.Tournament.TheInside.{Inside}
+use Rattle.board_core.specs.Rank.{earlier_of}
 
 -- the winner at an inner node, or the entrant at a leaf
 abbrev pub standing_at : List (Option Rank) → List (Option Rank) → ℕ → Option Rank

@@ -6,10 +6,10 @@ ghost use Rattle.entry_core.specs.Settled.{settled_jobs};
 ghost use Rattle.entry_core.specs.Legal.{AreWithinLimits, IsLegal};
 
 use crate::index::Index;
+use crate::tournament::Tournament;
 use entry_core::{Entry, Rules};
 use std::alloc::{AllocError, Global};
 use std::marker::Model;
-use tournament::Tournament;
 
 /// Jobs, shared packets and verdicts. Contracts see a board as its rules and its journal, which is legal; jobs,
 /// attempts, packets and places in the journal are counted from 1.

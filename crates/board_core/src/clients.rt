@@ -12,6 +12,7 @@ use crate::board::Board;
 use crate::faults::{AddFault, CancelFault, LookFault};
 use crate::index::{Ending, JobState, put, rank_of, state};
 use entry_core::{Entry, Event, Segment};
+use sat_base::limits::{MOST_CLAUSES, MOST_JOBS, MOST_LITERALS};
 use std::sync::Arc;
 
 impl Board {
@@ -29,15 +30,15 @@ impl Board {
             return Err(AddFault::Closed(place));
         }
         let before = self.index.jobs.len();
-        if before >= 1_048_576 {
+        if before >= MOST_JOBS as usize {
             return Err(AddFault::TooManyJobs);
         }
         let clauses = segment.clauses.items().len();
-        if clauses > 16_777_216 - self.index.clauses {
+        if clauses > MOST_CLAUSES as usize - self.index.clauses {
             return Err(AddFault::TooManyClauses);
         }
         let literals = literals_of(&segment);
-        if literals > 33_554_432 - self.index.literals {
+        if literals > MOST_LITERALS as usize - self.index.literals {
             return Err(AddFault::TooManyLiterals);
         }
         let copy = segment.clone()?;

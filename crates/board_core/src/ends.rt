@@ -12,7 +12,7 @@ ghost use Rattle.board_core.specs.Replies.{IsOwn, HasOutcome, job_at};
 use crate::answers::outcome_in;
 use crate::board::Board;
 use crate::faults::Late;
-use crate::index::{Ending, JobState, put, state};
+use crate::index::{Ending, JobState};
 use entry_core::{Answer, Clauses, Entry, Event};
 use std::sync::Arc;
 
@@ -26,30 +26,22 @@ impl Board {
         ensures late { IfErr result (λ late. HasOutcome self.old (job_at self.old attempt) late.0) }
         ensures err { OnErr result (self.new ≡ self.old) }
     {
-        let job = self.index.attempts[attempt as usize - 1];
-        let before = state(&self.index.jobs, job);
-        if let Some(how) = before.ending {
+        let own = self.index.attempted(attempt);
+        if let Some(how) = own.state.ending {
             return Err(Late(outcome_in(&self.journal, how)));
         }
         self.journal.push_reserved(Entry {
             caller,
             event: Event::Spent { attempt, learnt },
         });
-        let spent = before.spent + 1;
+        let spent = own.state.spent + 1;
         let ending = ending_by_budget(spent, self.rules.attempts);
         let after = JobState {
-            open_now: before.open_now - 1,
+            open_now: own.state.open_now - 1,
             spent,
             ending,
         };
-        put(
-            &mut self.index.jobs,
-            &mut self.index.waiting,
-            self.rules.attempts,
-            job,
-            after,
-        );
-        self.index.open_now -= 1;
+        self.index.end(self.rules.attempts, own.job, after);
         self.index.settled += newly_settled(ending);
         Ok(())
     }
@@ -63,10 +55,9 @@ impl Board {
         ensures late { IfErr result (λ late. HasOutcome self.old (job_at self.old attempt) late.0) }
         ensures err { OnErr result (self.new ≡ self.old) }
     {
-        let job = self.index.attempts[attempt as usize - 1];
-        let before = state(&self.index.jobs, job);
+        let own = self.index.attempted(attempt);
         let place = self.journal.len();
-        if let Some(how) = before.ending {
+        if let Some(how) = own.state.ending {
             return Err(Late(outcome_in(&self.journal, how)));
         }
         self.journal.push_reserved(Entry {
@@ -74,18 +65,11 @@ impl Board {
             event: Event::Decided { attempt, answer },
         });
         let after = JobState {
-            open_now: before.open_now - 1,
+            open_now: own.state.open_now - 1,
             ending: Some(Ending::Answered(place)),
-            ..before
+            ..own.state
         };
-        put(
-            &mut self.index.jobs,
-            &mut self.index.waiting,
-            self.rules.attempts,
-            job,
-            after,
-        );
-        self.index.open_now -= 1;
+        self.index.end(self.rules.attempts, own.job, after);
         self.index.settled += 1;
         Ok(())
     }
@@ -98,9 +82,8 @@ impl Board {
         ensures late { IfErr result (λ late. HasOutcome self.old (job_at self.old attempt) late.0) }
         ensures err { OnErr result (self.new ≡ self.old) }
     {
-        let job = self.index.attempts[attempt as usize - 1];
-        let before = state(&self.index.jobs, job);
-        if let Some(how) = before.ending {
+        let own = self.index.attempted(attempt);
+        if let Some(how) = own.state.ending {
             return Err(Late(outcome_in(&self.journal, how)));
         }
         self.journal.push_reserved(Entry {
@@ -108,18 +91,11 @@ impl Board {
             event: Event::Starved { attempt },
         });
         let after = JobState {
-            open_now: before.open_now - 1,
+            open_now: own.state.open_now - 1,
             ending: Some(Ending::Starved),
-            ..before
+            ..own.state
         };
-        put(
-            &mut self.index.jobs,
-            &mut self.index.waiting,
-            self.rules.attempts,
-            job,
-            after,
-        );
-        self.index.open_now -= 1;
+        self.index.end(self.rules.attempts, own.job, after);
         self.index.settled += 1;
         Ok(())
     }
@@ -130,24 +106,16 @@ impl Board {
         requires settled { IsSome (settled self.old.rules self.old.journal (job_at self.old attempt)) }
         ensures { self.new ≡ entered self.old caller (event.Dropped attempt) }
     {
-        let job = self.index.attempts[attempt as usize - 1];
-        let before = state(&self.index.jobs, job);
+        let own = self.index.attempted(attempt);
         self.journal.push_reserved(Entry {
             caller,
             event: Event::Dropped { attempt },
         });
         let after = JobState {
-            open_now: before.open_now - 1,
-            ..before
+            open_now: own.state.open_now - 1,
+            ..own.state
         };
-        put(
-            &mut self.index.jobs,
-            &mut self.index.waiting,
-            self.rules.attempts,
-            job,
-            after,
-        );
-        self.index.open_now -= 1;
+        self.index.end(self.rules.attempts, own.job, after);
     }
 }
 

@@ -1,12 +1,14 @@
 //! What a board keeps beside its journal, so that no call walks the journal.
 
 ghost use Rattle.std.specs.Prelude.{◌≡◌, ◌-◌, ◌≤◌, length, slice_set};
+ghost use Rattle.board_core.specs.Index.{HasAttempt, MayEnd, attempted, ended_at};
 ghost use Rattle.trace_core.specs.Known.{item_at};
 ghost use Rattle.board_core.specs.Index.{state_at, rank_of, room, IsCountable};
 
+use crate::rank::Rank;
+use crate::tournament::Tournament;
 use entry_core::Segment;
 use std::sync::Arc;
-use tournament::{Rank, Tournament};
 use trace_core::Packet;
 
 /// How a job was settled. An answer is named by the place of its entry in the journal, counted from 0.
@@ -33,6 +35,13 @@ impl JobState {
         spent: 0,
         ending: None,
     };
+}
+
+/// The job of an attempt, and where it stands.
+#[derive(Clone, Copy, Debug)]
+pub(crate) struct Attempted {
+    pub(crate) job: u32,
+    pub(crate) state: JobState,
 }
 
 /// Readings of the journal.
@@ -62,6 +71,30 @@ impl Index {
     {
         let place = job.checked_sub(1)?;
         self.jobs.get(place as usize).copied()
+    }
+
+    /// The job of an attempt that was begun, and where that job stands.
+    pub(crate) fn attempted(&self, attempt: u32) -> Attempted
+        requires { HasAttempt self.now attempt }
+        ensures { result ≡ attempted self.now attempt }
+    {
+        let job = self.attempts[attempt as usize - 1];
+        Attempted {
+            job,
+            state: state(&self.jobs, job),
+        }
+    }
+
+    /// Takes the end of an attempt at a job, which stands like this then. A job may have at most so many
+    /// attempts.
+    pub(crate) fn end(&mut self, most: u32, job: u32, state: JobState)
+        requires { MayEnd self.old job }
+        ensures jobs { self.new.jobs.items ≡ slice_set self.old.jobs.items (job - 1) state }
+        ensures waiting { self.new.waiting ≡ slice_set self.old.waiting (job - 1) (rank_of most job state) }
+        ensures rest { self.new ≡ ended_at self.old self.new }
+    {
+        put(&mut self.jobs, &mut self.waiting, most, job, state);
+        self.open_now -= 1;
     }
 
     /// How many entries may still come without memory: one for each unsettled job, each open attempt, and the

@@ -13,9 +13,11 @@ mod ends;
 mod faults;
 mod index;
 mod looks;
+mod rank;
 mod task;
 #[cfg(test)]
 mod tests;
+mod tournament;
 mod workers;
 
 pub use board::Board;

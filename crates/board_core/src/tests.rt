@@ -1,15 +1,18 @@
-//! The worked rows on a board, and a board with many jobs.
+//! The worked rows on a board, an answer, and as many jobs as there may be.
 
 ghost use Rattle.std.specs.Prelude.{IfOk};
 ghost use Rattle.board_core.specs.Replies.{IsTask, IsOwn};
 
 use crate::{AddFault, AskFault, Board, CancelFault, LookFault, Task};
-use entry_core::{Clauses, Outcome, Rules, Segment, Verdict};
-use sat_base::{Clause, Cube, Lit};
+use entry_core::{Answer, Clauses, Outcome, Rules, Segment, Verdict};
+use sat_base::{Assign, Clause, Cube, Lit};
 use std::alloc::{AllocError, Global};
 use std::process::Abort;
 use std::sync::Arc;
 use std::test::Fail;
+
+mod limits;
+mod worked;
 
 fn segment(alloc: Global, rt: &impl Abort, clauses: &[&[i32]]) -> Result<Arc<Segment>, Fail> {
     let mut items = Vec::new(alloc);
@@ -134,20 +137,50 @@ fn begin(rt: &impl Abort, board: &mut Board) -> Result<u32, AllocError>
 }
 
 #[test]
-fn a_thousand_jobs_are_taken_in_their_order(rt: HostRuntime) -> Result<(), Fail> {
+fn as_many_jobs_as_there_may_be_are_taken_in_their_order(rt: HostRuntime) -> Result<(), Fail> {
     let alloc = rt.alloc();
     let mut board = board(alloc)?;
     let empty = segment(alloc, &rt, &[])?;
-    for job in 1..=1_000 {
+    for job in 1..=1_048_576 {
         assert_eq!(rt; add(&rt, &mut board, empty.clone()?), Ok(job));
     }
-    for job in 1..=1_000 {
+    assert_eq!(rt; add(&rt, &mut board, empty), Err(AddFault::TooManyJobs));
+    for job in 1..=1_048_576 {
         let attempt = begin(&rt, &mut board)?;
         assert_eq!(rt; attempt, job);
         assert_eq!(rt; board.starve(3, attempt), Ok(()));
     }
-    assert_eq!(rt; board.settled(), 1_000);
-    assert_eq!(rt; board.outcome(1_000), Ok(Outcome::Starved));
+    assert_eq!(rt; board.settled(), 1_048_576);
+    assert_eq!(rt; board.outcome(1_048_576), Ok(Outcome::Starved));
     assert_eq!(rt; take(&rt, &mut board)?, Task::Idle);
+    Ok(())
+}
+
+#[test]
+fn an_answer_settles_its_job(rt: HostRuntime) -> Result<(), Fail> {
+    let alloc = rt.alloc();
+    let rules = Rules {
+        clients: 1,
+        workers: 2,
+        attempts: 2,
+        conflicts: 1,
+        first: false,
+    };
+    let mut board = Board::new(alloc, rules)?;
+    let segment = Segment {
+        clauses: Clauses::of(Vec::new(alloc)),
+        cube: Cube::of_ascending(Vec::new(alloc)),
+    };
+    let segment = Arc::new(alloc, segment)?;
+    let answer = Arc::new(alloc, Answer::Model(Assign::of(Vec::new(alloc))))?;
+    let Ok(_) = board.add(1, segment) else {
+        panic!(rt; "not added");
+    };
+    let Task::Job { attempt, .. } = board.take(2)? else {
+        panic!(rt; "no job to take");
+    };
+    assert_eq!(rt; board.decide(2, attempt, answer), Ok(()));
+    assert_eq!(rt; board.outcome(1), Ok(Outcome::Model));
+    assert!(rt; matches!(board.verdict(1), Ok(Verdict::Answered(_))));
     Ok(())
 }

@@ -1,29 +1,35 @@
-//! The tree of matches.
+//! A tournament of jobs that wait: each knows its rank, and the first of all is known at once.
+//!
+//! A change takes one match a level of the tree and no memory, which a heap or an ordered set couldn't
+//! promise. An entrant is two numbers, or it doesn't wait.
 
-ghost use Rattle.std.specs.Prelude.{◌≡◌, ◌<◌, ◌+◌, ◌*◌, ◌/◌, [], ◌∷◌, ◌++◌, length, OnOk, OnErr, Option, None, slice_index_or, slice_set};
-ghost use Rattle.tournament.specs.Rank.{IsFirst, earlier_of};
-ghost use Rattle.tournament.specs.Tree.{standing_at, AreWonBut, IsPlayed};
+ghost use Rattle.std.specs.Prelude.{◌≡◌, ◌<◌, ◌+◌, ◌*◌, ◌/◌, [], ◌∷◌, ◌++◌, length, OnOk, OnErr, None, slice_set};
+ghost use Rattle.board_core.specs.Rank.{IsFirst, earlier_of};
+ghost use Rattle.board_core.specs.Tree.{standing_at, AreWonBut, IsPlayed};
 
 use crate::rank::{Rank, earlier_of};
 use std::alloc::{AllocError, Global};
 use std::marker::Model;
 
-/// Entrants in their order, each with its rank or none while it doesn't wait. Contracts see a tournament as
-/// the list of its entrants. Inner node `k` of the tree, counted from 1, has the winner between the nodes
-/// `2k` and `2k + 1`; behind the inner nodes stand the entrants. So an entrant takes 24 to 36 bytes.
+#[cfg(test)]
+mod tests;
+
+/// Entrants in their order, each with its rank or none while it doesn't wait. Contracts see a tournament
+/// as the list of its entrants. Inner node `k` of the tree, counted from 1, has the winner between the
+/// nodes `2k` and `2k + 1`; behind the inner nodes stand the entrants. So an entrant takes 24 to 36 bytes.
 #[derive(Debug, Drop)]
-pub struct Tournament {
+pub(crate) struct Tournament {
     entrants: Vec<Option<Rank>>,
     winners: Vec<Option<Rank>>,
 }
 
 impl Model for Tournament {
     ghost use Rattle.std.specs.Prelude.{List, Option};
-    ghost use Rattle.tournament.specs.declared.rank.Rank.{Rank};
+    ghost use Rattle.board_core.specs.declared.rank.Rank.{Rank};
 
     ghost Value = { List (Option Rank) };
 
-    ghost use Rattle.tournament.specs.Tree.{entrants_of, IsKept};
+    ghost use Rattle.board_core.specs.Tree.{entrants_of, IsKept};
 
     ghost view = { entrants_of };
 
@@ -32,7 +38,7 @@ impl Model for Tournament {
 
 impl Tournament {
     /// A tournament without entrants. Takes no memory.
-    pub fn new(alloc: Global) -> Tournament
+    pub(crate) fn new(alloc: Global) -> Tournament
         ensures { result ≡ [] }
     {
         Tournament {
@@ -42,22 +48,14 @@ impl Tournament {
     }
 
     /// How many entrants it has, those that don't wait among them.
-    pub fn len(&self) -> usize
+    pub(crate) fn len(&self) -> usize
         ensures { result ≡ length self.now }
     {
         self.entrants.len()
     }
 
-    /// An entrant's rank, or none while it doesn't wait. Entrants are counted from 0.
-    pub fn entrant(&self, place: usize) -> Option<Rank>
-        requires { place < length self.now }
-        ensures { result ≡ slice_index_or self.now place None }
-    {
-        self.entrants[place]
-    }
-
     /// One more entrant behind the others.
-    pub fn push(&mut self, entrant: Option<Rank>) -> Result<(), AllocError>
+    pub(crate) fn push(&mut self, entrant: Option<Rank>) -> Result<(), AllocError>
         ensures ok { OnOk result (self.new ≡ self.old ++ entrant ∷ []) }
         ensures err { OnErr result (self.new ≡ self.old) }
     {
@@ -70,7 +68,7 @@ impl Tournament {
     }
 
     /// Gives an entrant another rank, or none. Takes no memory.
-    pub fn set(&mut self, place: usize, entrant: Option<Rank>)
+    pub(crate) fn set(&mut self, place: usize, entrant: Option<Rank>)
         requires { place < length self.old }
         ensures { self.new ≡ slice_set self.old place entrant }
     {
@@ -80,7 +78,7 @@ impl Tournament {
     }
 
     /// The rank of the first entrant that waits, or none where no entrant waits.
-    pub fn first(&self) -> Option<Rank>
+    pub(crate) fn first(&self) -> Option<Rank>
         ensures { IsFirst self.now result }
     {
         standing_at(&self.entrants, &self.winners, 1)
@@ -135,7 +133,8 @@ fn play_all(entrants: &[Option<Rank>], winners: &mut [Option<Rank>])
     }
 }
 
-// Sees to it that one more entrant has a leaf: doubles the inner nodes where none is left, and plays all matches again.
+// Sees to it that one more entrant has a leaf: doubles the inner nodes where none is left, and plays
+// all matches again.
 fn make_room(entrants: &[Option<Rank>], winners: &mut Vec<Option<Rank>>) -> Result<(), AllocError>
     requires { IsPlayed entrants.now winners.old.items }
     ensures played { IsPlayed entrants.now winners.new.items }

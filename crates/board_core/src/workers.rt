@@ -14,6 +14,7 @@ use crate::faults::ShareFault;
 use crate::index::{JobState, put, state};
 use crate::task::Task;
 use entry_core::{Entry, Event};
+use sat_base::limits::MOST_PACKETS;
 use std::alloc::AllocError;
 use std::sync::Arc;
 use trace_core::Packet;
@@ -82,7 +83,7 @@ impl Board {
         ensures err { OnErr result (self.new ≡ self.old) }
     {
         let before = self.index.packets.len();
-        if before >= 4_194_304 {
+        if before >= MOST_PACKETS as usize {
             return Err(ShareFault::Full);
         }
         let copy = packet.clone()?;

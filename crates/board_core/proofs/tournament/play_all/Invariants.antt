@@ -1,6 +1,6 @@
 use Rattle.std.proofs.Common.{◌≤◌, length}
-use Rattle.tournament.specs.Tree.{AreWonBut}
-use Rattle.tournament.proofs.tree.play_all.Given as goal
+use Rattle.board_core.specs.Tree.{AreWonBut}
+use Rattle.board_core.proofs.tournament.play_all.Given as goal
 
 abbrev pub invariant-loop-node : goal.invariant-loop-node
 invariant-loop-node l = (l.node ≤ length l.winners) × AreWonBut l.entrants l.winners l.node 0

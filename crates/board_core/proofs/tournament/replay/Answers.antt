@@ -1,7 +1,7 @@
 use Rattle.std.proofs.Common.{◌/◌, ap, subst, arith, length}
-use Rattle.tournament.specs.Tree.{AreWonBut}
-use Rattle.tournament.proofs.Matches.{play_up, length-played}
-use Rattle.tournament.proofs.tree.replay.Goals as goal
+use Rattle.board_core.specs.Tree.{AreWonBut}
+use Rattle.board_core.proofs.Matches.{play_up, length-played}
+use Rattle.board_core.proofs.tournament.replay.Goals as goal
 
 pub loop-node-preserved : goal.loop-node-preserved
 loop-node-preserved c =

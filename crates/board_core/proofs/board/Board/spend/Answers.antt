@@ -1,131 +1,80 @@
-use Rattle.std.proofs.Common.{◌≡◌, ◌∙◌, ◌+◌, ◌-◌, ◌≤◌, ap, sym, subst, arith, length, slice_set, if◌then◌else◌}
+use Rattle.std.proofs.Common.{◌≡◌, ◌∙◌, ℕ, ◌+◌, ◌-◌, ◌≤◌, ap, sym, subst, arith, slice_set, if◌then◌else◌}
 use Rattle.std.specs.Arc.{arc_value}
-use Rattle.std.specs.Prelude.{ℕ, Bool, true, false, is_some}
-use Rattle.std.proofs.lemmas.List.{get_or_default}
+use Rattle.std.specs.Prelude.{Bool, true, false, is_some}
 use Rattle.entry_core.specs.Right.{IsSpentFor}
-use Rattle.entry_core.specs.declared.entries.Event.TheVariants as event
 use Rattle.board_core.specs.declared.index.JobState.{JobState}
 use Rattle.board_core.specs.State.{State}
-use Rattle.board_core.specs.Index.{rank_of}
-use Rattle.board_core.specs.Kept.{state_of, IsKept}
-use Rattle.board_core.specs.Replies.{IsOwn}
-use Rattle.board_core.proofs.Keeping.{all_entered, settled_few}
-use Rattle.board_core.proofs.Attempted.{at_work}
+use Rattle.board_core.specs.Index.{rank_of, ended_at}
+use Rattle.board_core.specs.Kept.{IsKept}
 use Rattle.board_core.proofs.Endings.{spent_state, kept_spent}
-use Rattle.board_core.proofs.Ready.{ready, inside_out, none_yet, in_time, late, written, spent_few}
+use Rattle.board_core.proofs.Ready.{has_attempt, ready, may_end, one_open, none_yet, in_time, late}
+use Rattle.board_core.proofs.Ready.{inside_out, written, kept_with, count_fits, spent_few}
 use Rattle.board_core.proofs.board.Board.spend.Goals as goal
 
 one_at_most : (b : Bool) (n : ℕ) → n ≡ (if b then 1 else 0) → n ≤ 1
 one_at_most true n is = omega arith
 one_at_most false n is = omega arith
 
-pub index-job-requires : goal.index-job-requires
-index-job-requires c =
-    let mine : IsOwn (state_of c.self.inside) c.args.caller c.args.attempt = subst (λ (board : State). IsOwn board c.args.caller c.args.attempt) (sym c.self.view_is) c.requires.own in
-    let work = at_work c.self.inside c.args.caller c.args.attempt mine.begun c.self.invariant mine.running in
-    let bound = work.bound in
-    omega arith
-
-pub state-before-requires-clause-from_one : goal.state-before-requires-clause-from_one
-state-before-requires-clause-from_one c =
-    let mine : IsOwn (state_of c.self.inside) c.args.caller c.args.attempt = subst (λ (board : State). IsOwn board c.args.caller c.args.attempt) (sym c.self.view_is) c.requires.own in
-    let work = at_work c.self.inside c.args.caller c.args.attempt mine.begun c.self.invariant mine.running in
-    let from = work.job_from in
-    let bound = work.bound in
-    let size = c.self.inside.index.attempts.ok.0 in
-    let is = c.index-job.ensures ∙ get_or_default c.self.inside.index.attempts.items (c.args.attempt - 1) c.index-job.result.now 0 (omega arith) ∙ work.job in
-    omega arith
-
-pub state-before-requires-clause-there : goal.state-before-requires-clause-there
-state-before-requires-clause-there c =
-    let mine : IsOwn (state_of c.self.inside) c.args.caller c.args.attempt = subst (λ (board : State). IsOwn board c.args.caller c.args.attempt) (sym c.self.view_is) c.requires.own in
-    let work = at_work c.self.inside c.args.caller c.args.attempt mine.begun c.self.invariant mine.running in
-    let there = work.job_there in
-    let bound = work.bound in
-    let size = c.self.inside.index.attempts.ok.0 in
-    let is = c.index-job.ensures ∙ get_or_default c.self.inside.index.attempts.items (c.args.attempt - 1) c.index-job.result.now 0 (omega arith) ∙ work.job in
-    let same = ap length c.deref.ensures.value in
-    omega arith
-
-pub returns-in-Some-clause-late : goal.returns-in-Some-clause-late
-returns-in-Some-clause-late c =
-    let r = ready c.self.inside c.args.self.now c.args.caller c.args.attempt c.index-job.result.now c.state-before.result c.deref.result.now c.self.view_is c.self.invariant c.requires.own
-    c.index-job.ensures c.deref.ensures.value c.state-before.ensures in
-    late c.self.inside c.args.self.now c.args.caller c.args.attempt c.index-job.result.now c.state-before.result c.in-Some.how c.outcome_in.result c.deref-in-Some.result.now r
-    c.in-Some.is c.deref-in-Some.ensures.value c.outcome_in.ensures
+pub attempted-own-requires : goal.attempted-own-requires
+attempted-own-requires c = has_attempt c.self.view_is c.self.invariant c.requires.own
 
 pub push_reserved-requires : goal.push_reserved-requires
 push_reserved-requires c =
-    let mine : IsOwn (state_of c.self.inside) c.args.caller c.args.attempt = subst (λ (board : State). IsOwn board c.args.caller c.args.attempt) (sym c.self.view_is) c.requires.own in
-    let work = at_work c.self.inside c.args.caller c.args.attempt mine.begun c.self.invariant mine.running in
-    work.spare
+    let r = ready c.self.view_is c.self.invariant c.requires.own c.attempted-own.ensures in
+    r.work.spare
 
 pub overflow_sub-after : goal.overflow_sub-after
-overflow_sub-after c =
-    let r = ready c.self.inside c.args.self.now c.args.caller c.args.attempt c.index-job.result.now c.state-before.result c.deref.result.now c.self.view_is c.self.invariant c.requires.own
-    c.index-job.ensures c.deref.ensures.value c.state-before.ensures in
-    let opened = r.work.opened in
-    let same = ap (λ (s : JobState). s.open_now) r.state_is in
-    omega arith
+overflow_sub-after c = one_open (ready c.self.view_is c.self.invariant c.requires.own c.attempted-own.ensures)
 
-pub put-requires-clause-from_one : goal.put-requires-clause-from_one
-put-requires-clause-from_one c =
-    let r = ready c.self.inside c.args.self.now c.args.caller c.args.attempt c.index-job.result.now c.state-before.result c.deref.result.now c.self.view_is c.self.invariant c.requires.own
-    c.index-job.ensures c.deref.ensures.value c.state-before.ensures in
-    let from = r.work.job_from in
-    let same = r.job_is in
-    omega arith
+pub end-requires : goal.end-requires
+end-requires c = may_end (ready c.self.view_is c.self.invariant c.requires.own c.attempted-own.ensures)
 
-pub put-requires-clause-there : goal.put-requires-clause-there
-put-requires-clause-there c =
-    let r = ready c.self.inside c.args.self.now c.args.caller c.args.attempt c.index-job.result.now c.state-before.result c.deref.result.now c.self.view_is c.self.invariant c.requires.own
-    c.index-job.ensures c.deref.ensures.value c.state-before.ensures in
-    let there = r.work.job_there in
-    let same = r.job_is in
-    omega arith
+pub returns-in-Some-clause-late : goal.returns-in-Some-clause-late
+returns-in-Some-clause-late c =
+    late (ready c.self.view_is c.self.invariant c.requires.own c.attempted-own.ensures)
+    c.in-Some.is c.deref.ensures.value c.outcome_in.ensures
 
-pub put-requires-clause-entered : goal.put-requires-clause-entered
-put-requires-clause-entered c = all_entered c.self.inside c.self.invariant
-
-pub overflow_sub-self : goal.overflow_sub-self
-overflow_sub-self c =
-    let mine : IsOwn (state_of c.self.inside) c.args.caller c.args.attempt = subst (λ (board : State). IsOwn board c.args.caller c.args.attempt) (sym c.self.view_is) c.requires.own in
-    let work = at_work c.self.inside c.args.caller c.args.attempt mine.begun c.self.invariant mine.running in
-    work.total
+pub returns-clause-in_time : goal.returns-clause-in_time
+returns-clause-in_time c =
+    in_time (ready c.self.view_is c.self.invariant c.requires.own c.attempted-own.ensures) c.in_default.is
 
 pub overflow_add-spent : goal.overflow_add-spent
 overflow_add-spent c =
-    let r = ready c.self.inside c.args.self.now c.args.caller c.args.attempt c.index-job.result.now c.state-before.result c.deref.result.now c.self.view_is c.self.invariant c.requires.own
-    c.index-job.ensures c.deref.ensures.value c.state-before.ensures in
-    let few = spent_few c.self.inside c.args.self.now c.args.caller c.args.attempt c.index-job.result.now c.state-before.result r c.in_default.is in
+    let few = spent_few (ready c.self.view_is c.self.invariant c.requires.own c.attempted-own.ensures) c.in_default.is in
     omega arith
 
 pub overflow_add-self : goal.overflow_add-self
 overflow_add-self c =
-    let few = settled_few c.self.inside c.self.invariant in
+    let few = count_fits c.self.invariant c.end.ensures.rest in
     let one = one_at_most (is_some c.ending_by_budget-ending.result) _ c.newly_settled.ensures in
     omega arith
 
-pub returns-clause-in_time : goal.returns-clause-in_time
-returns-clause-in_time c =
-    let r = ready c.self.inside c.args.self.now c.args.caller c.args.attempt c.index-job.result.now c.state-before.result c.deref.result.now c.self.view_is c.self.invariant c.requires.own
-    c.index-job.ensures c.deref.ensures.value c.state-before.ensures in
-    in_time c.self.inside c.args.self.now c.args.caller c.args.attempt c.index-job.result.now c.state-before.result r c.in_default.is
-
 pub invariant_of-self : goal.invariant_of-self
 invariant_of-self c =
-    let r = ready c.self.inside c.args.self.now c.args.caller c.args.attempt c.index-job.result.now c.state-before.result c.deref.result.now c.self.view_is c.self.invariant c.requires.own
-    c.index-job.ensures c.deref.ensures.value c.state-before.ensures in
-    let none = none_yet c.self.inside c.args.self.now c.args.caller c.args.attempt c.index-job.result.now c.state-before.result r c.in_default.is in
+    let r = ready c.self.view_is c.self.invariant c.requires.own c.attempted-own.ensures in
     let how = c.ending_by_budget-ending.ensures in
+    let most : ℕ = c.self.inside.rules.attempts in
+    let own : JobState = c.attempted-own.result.state in
+    let job : ℕ = c.attempted-own.result.job in
+    let spent = inside_out r
+    (λ (board : State) job.
+    IsSpentFor board.journal job board.rules.conflicts (arc_value c.args.learnt))
+    c.requires.spent in
     let counted = c.newly_settled.ensures ∙ ap (λ h. if is_some h then 1 else 0) how
-    ∙ ap (λ (s : JobState). if is_some (spent_state c.self.inside.rules.attempts s).ending then 1 else 0) r.state_is in
-    subst (λ n. IsKept (record c.self.inside { journal = c.push_reserved.new.self; index = record c.self.inside.index { jobs = c.put.new.jobs; waiting = c.put.new.waiting; open_now = c.self.inside.index.open_now - 1; settled = c.self.inside.index.settled + n } })) (sym counted)
-    (kept_spent c.self.inside c.push_reserved.new.self c.put.new.jobs c.put.new.waiting c.args.caller c.args.attempt c.args.learnt r.begun c.self.invariant r.running none
-    (inside_out c.self.inside c.args.self.now c.args.attempt r.begun (λ (board : State) job. IsSpentFor board.journal job board.rules.conflicts (arc_value c.args.learnt)) c.self.view_is r.named c.requires.spent)
-    (written c.self.inside c.args.self.now c.args.caller c.args.attempt c.index-job.result.now c.state-before.result c.push_reserved.new.self c.put.new.jobs c.put.new.waiting
-    (event.Spent c.args.attempt c.args.learnt) (spent_state c.self.inside.rules.attempts) r
-    c.push_reserved.ensures.items c.push_reserved.ensures.capacity
-    (c.put.ensures.jobs ∙ ap (λ h. slice_set c.self.inside.index.jobs.items (c.index-job.result.now - 1) (record { open_now = c.state-before.result.open_now - 1; spent = c.state-before.result.spent + 1; ending = h })) how)
-    (c.put.ensures.waiting ∙ ap (λ h. slice_set c.self.inside.index.waiting (c.index-job.result.now - 1)
-    (rank_of c.self.inside.rules.attempts c.index-job.result.now (record { open_now = c.state-before.result.open_now - 1; spent = c.state-before.result.spent + 1; ending = h }))) how)))
+    ∙ ap (λ (s : JobState). if is_some (spent_state most s).ending then 1 else 0) r.state_is in
+    kept_with c.self.inside c.newly_settled.result c.end.ensures.rest
+    (subst (λ n. IsKept (record c.self.inside {
+      journal = c.push_reserved.new.self;
+      index = record (ended_at c.self.inside.index c.end.new.self) {
+        settled = c.self.inside.index.settled + n;
+      };
+    })) (sym counted)
+    (kept_spent c.self.inside c.push_reserved.new.self c.end.new.self.jobs c.end.new.self.waiting
+    c.args.caller c.args.attempt c.args.learnt r.begun c.self.invariant r.running
+    (none_yet r c.in_default.is) spent
+    (written (spent_state most) r c.push_reserved.ensures.items c.push_reserved.ensures.capacity
+    (c.end.ensures.jobs ∙ ap (λ h. slice_set c.self.inside.index.jobs.items (job - 1)
+    (record { open_now = own.open_now - 1; spent = own.spent + 1; ending = h })) how)
+    (c.end.ensures.waiting ∙ ap (λ h. slice_set c.self.inside.index.waiting (job - 1)
+    (rank_of most job (record { open_now = own.open_now - 1; spent = own.spent + 1; ending = h })))
+    how))))

@@ -1,7 +1,7 @@
 use Rattle.std.proofs.Common.{subst, arith}
-use Rattle.tournament.specs.Rank.{IsFirst}
-use Rattle.tournament.proofs.Firsts.{first_of_all}
-use Rattle.tournament.proofs.tree.Tournament.first.Goals as goal
+use Rattle.board_core.specs.Rank.{IsFirst}
+use Rattle.board_core.proofs.Roots.{first_of_all}
+use Rattle.board_core.proofs.tournament.Tournament.first.Goals as goal
 
 pub returns : goal.returns
 returns c =

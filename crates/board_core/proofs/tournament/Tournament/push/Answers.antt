@@ -1,6 +1,6 @@
 use Rattle.std.proofs.Common.{◌∙◌, ◌+◌, ◌++◌, ◌∷◌, [], ap, sym, arith, length}
-use Rattle.tournament.proofs.Pushed.{won_but_pushed}
-use Rattle.tournament.proofs.tree.Tournament.push.Goals as goal
+use Rattle.board_core.proofs.Entrants.{won_but_pushed}
+use Rattle.board_core.proofs.tournament.Tournament.push.Goals as goal
 
 pub replay-requires-clause-others : goal.replay-requires-clause-others
 replay-requires-clause-others c =

@@ -1,0 +1,10 @@
+use Rattle.std.proofs.Common.{◌≡◌}
+use Rattle.tarmo_bench.specs.Search.{IsReady}
+use Rattle.tarmo_bench.proofs.learning.search.search.Given as goal
+
+abbrev pub invariant-loop-lit : goal.invariant-loop-lit
+invariant-loop-lit l = record {
+  store_vars : l.store.vars ≡ l.fn.store.vars;
+  vars : l.trail.vars ≡ l.fn.trail.vars;
+  ready : IsReady l.store.clauses l.trail;
+}

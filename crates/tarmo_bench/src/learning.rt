@@ -1,0 +1,72 @@
+//! Learns from the same conflict over and over.
+//!
+//! The text is three pigeons in two holes, and a clause of one literal for each further variable, so that
+//! the trail is as long as the text has variables. The time of a call must not grow with it.
+
+mod instance;
+mod search;
+mod units;
+
+use analyze::Scratch;
+use anyhow::{Context, Result, ensure};
+use instance::{Row, conflict_after, learn_once};
+use sat_base::limits::GREATEST_VARIABLE;
+use std::alloc::{AllocError, Global};
+use std::time::CpuClock;
+
+const PIGEONS: [Row; 9] = [
+    (&[1, 2], 1),
+    (&[3, 4], 1),
+    (&[5, 6], 1),
+    (&[-1, -3], 1),
+    (&[-1, -5], 1),
+    (&[-3, -5], 1),
+    (&[-2, -4], 1),
+    (&[-2, -6], 1),
+    (&[-4, -6], 1),
+];
+
+// The pigeons, and variables that are true from the start.
+fn rows<'a>(alloc: Global, units: &'a [[i32; 1]]) -> Result<Vec<Row<'a>>, AllocError> {
+    let mut rows: Vec<Row<'a>> = Vec::new(alloc);
+    for row in &PIGEONS {
+        rows.push(*row)?;
+    }
+    for unit in units {
+        rows.push((unit.as_slice(), 1))?;
+    }
+    Ok(rows)
+}
+
+/// Learns so often from a text of so many variables, and tells the processor time of the calls.
+pub(crate) fn measure(rt: &HostRuntime, vars: Option<u32>, calls: Option<u32>) -> Result<()> {
+    let given = vars.is_some();
+    let vars = vars.unwrap_or(100);
+    let calls = calls.unwrap_or(10);
+    ensure!(
+        vars >= 6 && vars <= GREATEST_VARIABLE,
+        "6 to 8388607 variables"
+    );
+
+    let alloc = rt.alloc();
+    let mut units = Vec::new(alloc);
+    for var in 7..=vars {
+        units.push([var as i32])?;
+    }
+    let rows = rows(alloc, &units)?;
+    let conflict = conflict_after(alloc, vars, &rows, &[1])?.context("no conflict")?;
+    let mut scratch = Scratch::new(alloc);
+    scratch.reserve(vars)?;
+    let mut hints = 0u64;
+    let start = rt.process_cpu_time()?;
+    for _ in 0..calls {
+        let learnt = learn_once(alloc, &mut scratch, &conflict, vars)?;
+        hints = hints.saturating_add(learnt.step.hints.items().len() as u64);
+    }
+    let time = rt.process_cpu_time()?.saturating_sub(start);
+    println!(rt; "{vars} variables, {calls} clauses learnt with {hints} hints")?;
+    if given {
+        println!(rt; "{time:?}")?;
+    }
+    Ok(())
+}

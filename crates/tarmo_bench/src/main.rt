@@ -1,0 +1,55 @@
+//! Measures a part of Tarmo: `tarmo_bench MEASURE [SIZES]`.
+//!
+//! The first word says what is measured, and the others how much. With sizes a measure tells the time that
+//! it took; without, it does a little and tells only what came out. Without words, or with others, the
+//! program says which words there are.
+#![tactic(auto)]
+
+mod board;
+mod checker;
+mod learning;
+mod lock;
+mod reader;
+mod trimming;
+
+use anyhow::Result;
+use std::env;
+
+const USAGE: &str = "\
+tarmo_bench MEASURE [SIZES]
+
+  reader                     counts what an iCNF text on standard input states
+  checker [STEPS]            checks a trace of so many steps
+  learning [VARIABLES CALLS] learns from one conflict again and again
+  trimming [STEPS]           trims and prints a derivation of so many steps
+  board [JOBS]               adds so many jobs to a board, takes and ends each
+  lock [HOLDS]               holds the lock so often, and std's Mutex beside it
+
+With sizes the times are told.";
+
+// The word at a place behind the program's name, as a number.
+fn size_at(rt: &HostRuntime, place: usize) -> Result<Option<u32>> {
+    match env::args(rt)?.nth(place) {
+        Some(word) => Ok(Some(word.parse::<u32>()?)),
+        None => Ok(None),
+    }
+}
+
+fn main(rt: HostRuntime) -> Result<()> {
+    let Some(measure) = env::args(&rt)?.nth(1) else {
+        println!(rt; "{USAGE}")?;
+        return Ok(());
+    };
+    match measure.as_str() {
+        "reader" => reader::measure(&rt),
+        "checker" => checker::measure(&rt, size_at(&rt, 2)?),
+        "learning" => learning::measure(&rt, size_at(&rt, 2)?, size_at(&rt, 3)?),
+        "trimming" => trimming::measure(&rt, size_at(&rt, 2)?),
+        "board" => board::measure(&rt, size_at(&rt, 2)?),
+        "lock" => lock::measure(&rt, size_at(&rt, 2)?),
+        _ => {
+            println!(rt; "{USAGE}")?;
+            Ok(())
+        }
+    }
+}

@@ -1,8 +1,0 @@
-use Rattle.std.proofs.Common.{◌≡◌, ◌+◌, [], length}
-use Rattle.trace_bench.proofs.trace.add_inputs.Given as goal
-
-abbrev pub invariant-loop-variable : goal.invariant-loop-variable
-invariant-loop-variable l = record {
-  inputs : length l.checker.inputs + 1 ≡ l.variable;
-  steps : l.checker.steps ≡ [];
-}

@@ -1,7 +1,0 @@
-use Rattle.std.proofs.Common.{take}
-use Rattle.std.specs.Prelude.{All}
-use Rattle.trace_text.specs.Text.{IsHintBelow}
-use Rattle.trim_bench.proofs.chain.are_below.Given as goal
-
-abbrev pub invariant-loop-hint : goal.invariant-loop-hint
-invariant-loop-hint l = All (IsHintBelow l.inputs l.steps) (take l.hint-index l.hints)
