@@ -23,9 +23,12 @@ lits_of_each clauses = map (λ clause. clause.lits) clauses
 
 -- no literal stands in two places
 pub record HasNoRepeat (lits : List ℕ) : Type 0 where
-  pub each : (i j : ℕ) → i < length lits → j < length lits → slice_index lits i ≡ slice_index lits j → i ≡ j
+  pub each : (i j : ℕ) → i < length lits → j < length lits
+      → slice_index lits i ≡ slice_index lits j → i ≡ j
 
 -- the clauses where exactly these two places of one clause are exchanged
 abbrev pub with_places_swapped : List ArenaClause → ℕ → ℕ → ℕ → List ArenaClause
 with_places_swapped clauses id i j =
-    slice_set clauses id (record (clause_at clauses id) { lits = swap (clause_at clauses id).lits i j })
+    slice_set clauses id (record (clause_at clauses id) {
+      lits = swap (clause_at clauses id).lits i j;
+    })
