@@ -1,3 +1,4 @@
+pub mod Limits
 pub mod Lit
 pub mod Truth
 pub mod Law

@@ -1,16 +1,20 @@
 -- Literals by their codes, and sets of literals.
--- The code is the one that MiniSat and AIGER use: 2v for the positive literal of variable v, 2v + 1 for the negative one.
-use Rattle.std.specs.Prelude.{ℕ, ℤ, pos, negsuc, ◌+◌, ◌-◌, ◌*◌, ◌/◌, ◌%◌, ◌<◌, ◌≤◌, ◌==◌, ◌&&◌, nat_lt, max, Bool, true, List, [], ◌∷◌, All, Contains, IsTrue}
+-- The code is the one that MiniSat and AIGER use: 2v for the positive literal of variable v, 2v + 1
+-- for the negative one.
+use Rattle.std.specs.Prelude.{ℕ, ℤ, pos, negsuc, ◌+◌, ◌-◌, ◌*◌, ◌/◌, ◌%◌, ◌<◌, ◌≤◌, nat_lt, max}
+use Rattle.std.specs.Prelude.{Bool, true, ◌==◌, ◌&&◌, if◌then◌else◌, IsTrue}
+use Rattle.std.specs.Prelude.{List, [], ◌∷◌, All, Contains}
+use Rattle.sat_base.specs.Limits.{greatest_variable}
 
--- the code of a whole number with a sign: DIMACS writes v for a positive literal and -v for a negative one
+-- the code of a whole number with a sign: DIMACS writes v for a positive literal, -v for a negative one
 abbrev pub code_of : ℤ → ℕ
 code_of (pos v) = 2 * v
 code_of (negsuc n) = 2 * n + 3
 
--- a code whose variable is 1 to 8,388,607
+-- a code whose variable is 1 to the greatest variable
 pub record IsLit (code : ℕ) : Type 0 where
   pub not_zero : 2 ≤ code
-  pub within : code < 16777216
+  pub within : code < 2 * greatest_variable + 2
 
 abbrev pub variable : ℕ → ℕ
 variable code = code / 2
@@ -35,6 +39,18 @@ is_ascending lits = ascends_above 0 lits
 pub record IsLitSet (lits : List ℕ) : Type 0 where
   pub each : All IsLit lits
   pub ascending : IsTrue (is_ascending lits)
+
+-- a literal put into a list that ascends strictly: it stands there once
+abbrev pub put_in : ℕ → List ℕ → List ℕ
+put_in lit [] = lit ∷ []
+put_in lit (other ∷ lits) =
+    if nat_lt lit other then lit ∷ other ∷ lits
+    else (if lit == other then other ∷ lits else other ∷ put_in lit lits)
+
+-- the same literals in strictly ascending order, each once
+abbrev pub in_order : List ℕ → List ℕ
+in_order [] = []
+in_order (lit ∷ lits) = put_in lit (in_order lits)
 
 -- both literals of one variable are there
 pub record IsTautology (clause : List ℕ) : Type 0 where

@@ -1,6 +1,7 @@
 //! Laws over the definitions alone, each as the contract of a function that does nothing.
 
-ghost use Rattle.sat_base.specs.Law.{CubeContradictsItsNegation, EntailmentGrows, FewClauses, OneAnswer, ResolutionIsSound, TruthSeesMembers};
+ghost use Rattle.sat_base.specs.Law.{EntailmentGrows, ResolutionIsSound, TruthSeesMembers};
+ghost use Rattle.sat_base.specs.Law.{CubeContradictsItsNegation, FewClauses, OneAnswer};
 
 /// What a list of clauses entails, each list that has these clauses entails too.
 pub fn entailment_grows()

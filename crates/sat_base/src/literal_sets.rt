@@ -1,7 +1,8 @@
-//! Strictly ascending lists of literals, which clauses and cubes share.
+//! Lists of literals: their order, their negations and their variables.
 
 ghost use Rattle.std.specs.Prelude.{◌≡◌, ℕ, ◌↔◌, IfOk, map, All, Contains, IsTrue};
-ghost use Rattle.sat_base.specs.Lit.{IsLit, IsLitSet, IsTautology, opposite, is_ascending};
+ghost use Rattle.sat_base.specs.Lit.{IsLit, IsLitSet, IsTautology};
+ghost use Rattle.sat_base.specs.Lit.{opposite, is_ascending, greatest_of};
 
 use crate::Lit;
 use std::alloc::{AllocError, Global};
@@ -45,4 +46,29 @@ pub(crate) fn has_both_signs(lits: &[Lit]) -> bool
         }
     }
     false
+}
+
+/// Whether each literal is greater than the one before it: then the list is a set in its order.
+pub fn is_strictly_ascending(lits: &[Lit]) -> bool
+    ensures { result ≡ is_ascending lits.now }
+{
+    let mut bound = 0;
+    for lit in lits {
+        if lit.code() <= bound {
+            return false;
+        }
+        bound = lit.code();
+    }
+    true
+}
+
+/// The greatest variable of the literals, 0 if there is none.
+pub fn greatest_variable(lits: &[Lit]) -> u32
+    ensures { result ≡ greatest_of lits.now }
+{
+    let mut greatest: u32 = 0;
+    for lit in lits {
+        greatest = greatest.max(lit.var());
+    }
+    greatest
 }

@@ -5,11 +5,12 @@ ghost use Rattle.std.specs.Option.{SomeIff};
 ghost use Rattle.sat_base.specs.Lit.{IsLit, code_of, variable, is_negative, opposite};
 ghost use Rattle.sat_base.specs.Truth.{lit_true};
 
+use crate::limits::GREATEST_VARIABLE;
 use std::marker::Model;
 
 /// A literal: a variable from 1 to 8,388,607 or its negation. Four bytes, by the code of MiniSat and
-/// AIGER: 2v for the positive literal of variable v, 2v + 1 for the negative one. Literals are ordered by
-/// code. Contracts see a literal as its code.
+/// AIGER: 2v for the positive literal of variable v, 2v + 1 for the negative one. Literals are ordered
+/// by code. Contracts see a literal as its code.
 #[derive(Clone, Copy, Debug, PartialEq, Eq, PartialOrd, Ord)]
 pub struct Lit {
     code: u32,
@@ -35,7 +36,7 @@ impl Lit {
         ensures { SomeIff result (IsLit (code_of number)) (code_of number) }
     {
         let variable = number.unsigned_abs();
-        if variable == 0 || variable > 8_388_607 {
+        if variable == 0 || variable > GREATEST_VARIABLE {
             return None;
         }
         let sign = if number < 0 { 1 } else { 0 };
@@ -74,8 +75,8 @@ impl Lit {
         }
     }
 
-    /// The code, from 2 to 16,777,215: 2v for the positive literal of variable v, 2v + 1 for the negative
-    /// one. It fits as an index of an array with two places for each variable.
+    /// The code, from 2 to 16,777,215: 2v for the positive literal of variable v, 2v + 1 for the
+    /// negative one. It fits as an index of an array with two places for each variable.
     pub fn code(self) -> u32
         ensures value { result ≡ self }
         ensures lit { IsLit self }

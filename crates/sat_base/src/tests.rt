@@ -81,6 +81,23 @@ fn a_negated_cube_is_sorted(rt: HostRuntime) -> Result<(), Fail> {
 }
 
 #[test]
+fn order_and_greatest_variable_are_those_of_the_codes(rt: HostRuntime) -> Result<(), Fail> {
+    let alloc = rt.alloc();
+    for (numbers, ascends, greatest) in [
+        ([1, -1, 2].as_slice(), true, 2),
+        ([-1, 1].as_slice(), false, 1),
+        ([-5, -5].as_slice(), false, 5),
+        ([].as_slice(), true, 0),
+        ([-8_388_607].as_slice(), true, limits::GREATEST_VARIABLE),
+    ] {
+        let lits = lits(alloc, numbers)?;
+        assert_eq!(rt; is_strictly_ascending(&lits), ascends, "{numbers:?}");
+        assert_eq!(rt; greatest_variable(&lits), greatest, "{numbers:?}");
+    }
+    Ok(())
+}
+
+#[test]
 fn truth_is_the_textbooks(rt: HostRuntime) -> Result<(), Fail> {
     let alloc = rt.alloc();
     let a = Assign::of([false, true].to_vec(alloc)?);
