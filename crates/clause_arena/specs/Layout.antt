@@ -1,6 +1,7 @@
 -- How an arena keeps its clauses: one block of literals, the bounds of the clauses in it, and their
 -- names.
-use Rattle.std.specs.Prelude.{ℕ, zero, suc, ◌+◌, ◌-◌, ◌<◌, ◌≤◌, List, [], ◌∷◌, ◌++◌, length, slice_index, slice_range}
+use Rattle.std.specs.Prelude.{ℕ, zero, suc, ◌+◌, ◌-◌, ◌<◌, ◌≤◌, List, [], ◌∷◌, ◌++◌, length}
+use Rattle.std.specs.Prelude.{slice_index, slice_range}
 use Rattle.clause_arena.specs.declared.arena.Arena.TheInside.{Inside}
 use Rattle.clause_arena.specs.Arena.{ArenaClause, HasNoRepeat}
 use Rattle.clause_arena.specs.Named.{Named, named_at}

@@ -1,6 +1,7 @@
 //! Clauses in one block of memory.
 
-ghost use Rattle.std.specs.Prelude.{◌≡◌, ℕ, ◌<◌, List, [], ◌∷◌, ◌++◌, length, take, All, IfOk, OnOk, OnErr};
+ghost use Rattle.std.specs.Prelude.{◌≡◌, ℕ, ◌<◌, List, [], ◌∷◌, ◌++◌, length, take, All, IfOk};
+ghost use Rattle.std.specs.Prelude.{OnOk, OnErr};
 ghost use Rattle.clause_arena.specs.Arena.{HasNoRepeat, clause_at, with_places_swapped};
 ghost use Rattle.clause_arena.specs.Layout.{begun};
 

@@ -1,6 +1,7 @@
 //! Tags and origins of clauses, twelve bytes for each.
 
-ghost use Rattle.std.specs.Prelude.{◌≡◌, ℕ, ◌<◌, [], ◌∷◌, ◌++◌, length, take, IfSome, IfOk, OnOk, OnErr};
+ghost use Rattle.std.specs.Prelude.{◌≡◌, ℕ, ◌<◌, [], ◌∷◌, ◌++◌, length, take, IfSome, IfOk, OnOk};
+ghost use Rattle.std.specs.Prelude.{OnErr};
 ghost use Rattle.clause_arena.specs.Named.{named_at, ref_of, IsAmong, IsPlain};
 
 use sat_base::Ref;

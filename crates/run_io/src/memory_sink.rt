@@ -2,7 +2,8 @@
 ghost use Rattle.std.specs.Prelude.{◌≡◌, ◌<◌, ◌≤◌, ◌↔◌, [], IfOk, IsErr, OnErr, OnOk, length, take};
 ghost use Rattle.run_io.specs.Bytes.{appended};
 ghost use Rattle.run_io.specs.Fault.{HasCause};
-ghost use Rattle.run_io.specs.MemorySinkState.{WriteFails, write_count, after_write, after_flush, after_sink_fault};
+ghost use Rattle.run_io.specs.MemorySinkState.{WriteFails, write_count, after_write, after_flush};
+ghost use Rattle.run_io.specs.MemorySinkState.{after_sink_fault};
 ghost use Rattle.run_io.specs.Script.{new_script, NextFails};
 
 use crate::script::Script;

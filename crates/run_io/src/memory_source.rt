@@ -1,9 +1,11 @@
 //! A source over bytes in memory.
-ghost use Rattle.std.specs.Prelude.{◌≡◌, ◌<◌, ◌≤◌, ◌||◌, ◌++◌, ◌↔◌, false, IfOk, IsErr, OnErr, OnOk, length, take, drop, min};
+ghost use Rattle.std.specs.Prelude.{◌≡◌, ◌<◌, ◌≤◌, ◌||◌, ◌++◌, ◌↔◌, false, IfOk, IsErr, OnErr};
+ghost use Rattle.std.specs.Prelude.{OnOk, length, take, drop, min};
 ghost use Rattle.std.specs.Vec.Iter.{into_iter_items};
 ghost use Rattle.run_io.specs.Bytes.{followed_by, is_end, IsEmptyWhereTold};
 ghost use Rattle.run_io.specs.Fault.{HasCause};
-ghost use Rattle.run_io.specs.MemorySourceState.{most_by_cut, read_count, after_read, after_start, after_source_fault};
+ghost use Rattle.run_io.specs.MemorySourceState.{most_by_cut, read_count, after_read, after_start};
+ghost use Rattle.run_io.specs.MemorySourceState.{after_source_fault};
 ghost use Rattle.run_io.specs.Script.{new_script, NextFails};
 
 use crate::pieces::finds_end;

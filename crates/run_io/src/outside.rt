@@ -1,5 +1,6 @@
 //! The outside as the program sees it.
-ghost use Rattle.std.specs.Prelude.{◌≡◌, ◌<◌, ◌≤◌, ◌||◌, Bool, List, ℕ, Option, IfOk, OnErr, length, take};
+ghost use Rattle.std.specs.Prelude.{◌≡◌, ◌<◌, ◌≤◌, ◌||◌, Bool, List, ℕ, Option, IfOk, OnErr};
+ghost use Rattle.std.specs.Prelude.{length, take};
 ghost use Rattle.run_io.specs.Bytes.{appended, followed_by, is_end, IsEmptyWhereTold};
 ghost use Rattle.run_io.specs.Fault.{HasCause};
 

@@ -1,5 +1,6 @@
 //! A source over a named file or standard input.
-ghost use Rattle.std.specs.Prelude.{◌≡◌, ◌≤◌, ◌||◌, false, true, None, IfNone, IfOk, IsErr, IsOk, OnErr, OnOk, is_some, length};
+ghost use Rattle.std.specs.Prelude.{◌≡◌, ◌≤◌, ◌||◌, false, true, None, IfNone, IfOk, IsErr, IsOk};
+ghost use Rattle.std.specs.Prelude.{OnErr, OnOk, is_some, length};
 ghost use Rattle.run_io.specs.Bytes.{is_end};
 ghost use Rattle.run_io.specs.Fault.{one_more, HasCause};
 

@@ -1,6 +1,7 @@
 -- How a trail is kept: a truth value for each literal, a standing for each variable, and the
 -- literals in order.
-use Rattle.std.specs.Prelude.{◌≡◌, ℕ, ◌+◌, ◌-◌, ◌*◌, ◌<◌, ◌≤◌, min, List, map, length, take, All, count_by, slice_index, slice_index_or}
+use Rattle.std.specs.Prelude.{◌≡◌, ℕ, ◌+◌, ◌-◌, ◌*◌, ◌<◌, ◌≤◌, min, List, map, length, take, All}
+use Rattle.std.specs.Prelude.{count_by, slice_index, slice_index_or}
 use Rattle.sat_base.specs.Lit.{variable}
 use Rattle.trail_core.specs.declared.truth.Truth.{Truth}
 use Rattle.trail_core.specs.declared.truth.Truth.TheVariants.{Unassigned}

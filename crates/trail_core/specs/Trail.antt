@@ -1,5 +1,6 @@
 -- Trails as contracts see them.
-use Rattle.std.specs.Prelude.{◌≡◌, ℕ, ◌<◌, ◌≤◌, nat_le, List, map, filter, length, All, Contains, Option, None, slice_index_or}
+use Rattle.std.specs.Prelude.{◌≡◌, ℕ, ◌<◌, ◌≤◌, nat_le, List, map, filter, length, All, Contains}
+use Rattle.std.specs.Prelude.{Option, None, slice_index_or}
 use Rattle.sat_base.specs.Lit.{variable, opposite}
 
 -- a true literal, the level at which it became true, and the number of the clause that forced it,

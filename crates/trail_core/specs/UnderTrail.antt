@@ -1,6 +1,7 @@
 -- What holds under a trail. All of it depends on a clause only as a set of literals: never on their
 -- places.
-use Rattle.std.specs.Prelude.{◌≡◌, ◌≢◌, ℕ, ◌<◌, ◌≤◌, List, [], length, take, All, Contains, None, Some, slice_index_or}
+use Rattle.std.specs.Prelude.{◌≡◌, ◌≢◌, ℕ, ◌<◌, ◌≤◌, List, [], length, take, All, Contains, None}
+use Rattle.std.specs.Prelude.{Some, slice_index_or}
 use Rattle.sat_base.specs.Lit.{opposite}
 use Rattle.trail_core.specs.Trail.{Entry, entry_at, lits_of, up_to}
 

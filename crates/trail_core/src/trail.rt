@@ -1,8 +1,11 @@
 //! The trail.
 
-ghost use Rattle.std.specs.Prelude.{◌≡◌, ◌≢◌, ℕ, ◌+◌, ◌-◌, ◌<◌, ◌≤◌, max, List, [], ◌∷◌, ◌++◌, length, take, All, Option, Some, None, IfSome, IfNone, OnOk, OnErr, IsTrue, not};
+ghost use Rattle.std.specs.Prelude.{◌≡◌, ◌≢◌, ℕ, ◌+◌, ◌-◌, ◌<◌, ◌≤◌, max, List, [], ◌∷◌, ◌++◌};
+ghost use Rattle.std.specs.Prelude.{length, take, All, Option, Some, None, IfSome, IfNone, OnOk};
+ghost use Rattle.std.specs.Prelude.{OnErr, IsTrue, not};
 ghost use Rattle.sat_base.specs.Lit.{variable};
-ghost use Rattle.trail_core.specs.Trail.{Entry, IsTrail, IsFree, StandsAt, entry_at, lits_of, up_to};
+ghost use Rattle.trail_core.specs.Trail.{Entry, IsTrail, IsFree, StandsAt, entry_at, lits_of};
+ghost use Rattle.trail_core.specs.Trail.{up_to};
 ghost use Rattle.trail_core.specs.UnderTrail.{IsUnassigned};
 ghost use Rattle.trail_core.specs.Truth.{HasTruth, truth_of};
 ghost use Rattle.trail_core.specs.Standing.{IsStandingOf};

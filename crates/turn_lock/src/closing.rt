@@ -37,7 +37,8 @@ pub fn finish<T: Kept>(table: TurnTable<T>, seat: TurnSeat<T>) -> T
     ensures basis { T.basis result ≡ T.basis table.shared.key.value.value }
     ensures callers { All (λ e. (0 < T.caller e) × (T.caller e ≤ table.shared.key.passes))
         (T.entries result) }
-    ensures passes { FitsPasts T.entries T.caller T.count table.shared.key.passes seat.me.0.past result }
+    ensures passes { FitsPasts
+        T.entries T.caller T.count table.shared.key.passes seat.me.0.past result }
 {
     let mut closed = table.close_with(seat);
     let value = closed.take(VALUE);
