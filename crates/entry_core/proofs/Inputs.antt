@@ -1,13 +1,12 @@
 -- The input clauses of one job after another.
-use Rattle.std.proofs.Common.{◌≡◌, ◌∙◌, ℕ, zero, suc, ◌+◌, ◌-◌, ◌<◌, ◌≤◌, Bool, true, false, cond, Some, None, List, [], ◌∷◌, ◌++◌, map, length, refl, ap, subst, sym, inl, inr, arith, append_assoc, add-one}
-use Rattle.std.specs.Prelude.{◌⊎◌, ◌==◌, filter, slice_get, nat_le, Contains}
+use Rattle.std.proofs.Common.{◌≡◌, ◌∙◌, ℕ, zero, suc, ◌+◌, ◌-◌, ◌<◌, ◌≤◌, Bool, true, false, cond, Some, List, [], ◌∷◌, ◌++◌, map, length, refl, ap, subst, sym, inl, inr, arith, append_assoc, add-one}
+use Rattle.std.specs.Prelude.{◌⊎◌, filter, slice_get, nat_le, Contains}
 use Rattle.std.proofs.lemmas.Bool.Decides.{nat_tests}
 use Rattle.std.proofs.lemmas.List.Elements.{filter-append}
 use Rattle.std.proofs.lemmas.List.{append-nil}
 use Rattle.sat_base.proofs.Members.{Contains-filter}
 use Rattle.trace_core.specs.Known.{Known, item_at, AgreeUpTo}
-use Rattle.trace_core.proofs.Items.{item_at-append_cases}
-use Rattle.trace_core.proofs.Soundness.{nothing_in}
+use Rattle.trace_core.proofs.Items.{item_at-found, item_at-append_cases, nothing_in}
 use Rattle.entry_core.specs.declared.segments.Segment.{Segment}
 use Rattle.entry_core.specs.declared.entries.Entry.{Entry}
 use Rattle.entry_core.specs.Journal.{segments, jobs, tagged_from, inputs, inputs_of}
@@ -55,13 +54,11 @@ at_the_place bound first (suc place) (own ∷ rest) segment next is =
     ∙ ap (λ xs. (xs ++ up_to bound (tagged_from (suc first) rest)) ++ tagged (suc bound) segment.clauses) (sym (all_tagged bound first own.clauses earlier))
     ∙ ap (λ xs. xs ++ tagged (suc bound) segment.clauses) (sym (own_or_later bound first own rest))
 
--- the item at a place that is counted from 1, by the place that is counted from 0
-pub item_found : {X : Type 0} (items : List X) (place : ℕ) (item : X) → item_at items place ≡ Some item → (1 + (place - 1) ≡ place) × (slice_get items (place - 1) ≡ Some item)
-item_found items place item is = guarded (place == 0) refl is
-  where
-    guarded : (b : Bool) → (place == 0) ≡ b → cond b None (slice_get items (place - 1)) ≡ Some item → (1 + (place - 1) ≡ place) × (slice_get items (place - 1) ≡ Some item)
-    guarded true zero_is h = absurd (cc)
-    guarded false zero_is h = (grind (arith, nat_tests), h)
+-- The item at a place is the one at the index before it, which is one less.
+pub item_found : {X : Type 0} (items : List X) (place : ℕ) (item : X) → item_at items place ≡ Some item
+    → (1 + (place - 1) ≡ place) × (slice_get items (place - 1) ≡ Some item)
+item_found items place item is =
+    let at = item_at-found items place item is in (let positive = at.0 in omega arith, at.1)
 
 -- the inputs of the next job are those of this one and its own clauses, with its number as their tag
 pub inputs_of_next : (journal : List Entry) (job : ℕ) (segment : Segment) → item_at (segments journal) (suc job) ≡ Some segment

@@ -1,11 +1,12 @@
 -- Ok steps over other known clauses.
-use Rattle.std.proofs.Common.{◌≡◌, ℕ, ◌≤◌, Some, List, [], ◌∷◌, ◌++◌, map, subst, sym, append_assoc, append-nil, arith}
-use Rattle.std.specs.Prelude.{All, Contains}
+use Rattle.std.proofs.Common.{◌≡◌, ◌∙◌, ℕ, ◌≤◌, Some, List, [], ◌∷◌, ◌++◌, map, refl, ap}
+use Rattle.std.proofs.Common.{subst, sym, append_assoc, append-nil, arith}
+use Rattle.std.specs.Prelude.{Option, None, option_and_then, All, Contains}
 use Rattle.std.proofs.lemmas.List.Elements.{All-contains}
 use Rattle.sat_base.specs.declared.origins.Ref.{Ref}
 use Rattle.sat_base.specs.declared.origins.Ref.TheVariants.{Input, Shared, Own}
 use Rattle.sat_base.proofs.Members.{Contains-here, Contains-there}
-use Rattle.trace_core.specs.Known.{Known, known, AgreeUpTo}
+use Rattle.trace_core.specs.Known.{Known, known, item_at, AgreeUpTo}
 use Rattle.trace_core.specs.Trace.{AreOkSteps, AreOkPackets, known_of}
 use Rattle.trace_core.specs.declared.derivation.Step.{Step}
 use Rattle.trace_core.proofs.Items.{item_at-append}
@@ -17,6 +18,31 @@ pub known_with_inputs : (inputs more : List Known) (shared : List (List Known)) 
 known_with_inputs inputs more shared own (Input number) one is = item_at-append inputs more number one is
 known_with_inputs inputs more shared own (Shared packet step) one is = is
 known_with_inputs inputs more shared own (Own number) one is = is
+
+-- With more own steps, all that was known stays known.
+pub known_with_own : (inputs : List Known) (shared : List (List Known)) (own more : List Known)
+    (name : Ref) (one : Known)
+    → known inputs shared own name ≡ Some one → known inputs shared (own ++ more) name ≡ Some one
+known_with_own inputs shared own more (Input number) one is = is
+known_with_own inputs shared own more (Shared packet step) one is = is
+known_with_own inputs shared own more (Own number) one is = item_at-append own more number one is
+
+-- With more packets, all that was known stays known.
+pub known_with_packets : (inputs : List Known) (shared more : List (List Known)) (own : List Known)
+    (name : Ref) (one : Known)
+    → known inputs shared own name ≡ Some one → known inputs (shared ++ more) own name ≡ Some one
+known_with_packets inputs shared more own (Input number) one is = is
+known_with_packets inputs shared more own (Own number) one is = is
+known_with_packets inputs shared more own (Shared packet step) one is = by_packet (item_at shared packet) refl is
+  where
+    step_in : Option (List Known) → Option Known
+    step_in found = option_and_then (λ (steps : List Known). item_at steps step) found
+
+    by_packet : (found : Option (List Known)) → item_at shared packet ≡ found → step_in found ≡ Some one
+        → step_in (item_at (shared ++ more) packet) ≡ Some one
+    by_packet None none is = absurd (cc)
+    by_packet (Some steps) some is =
+        ap step_in (item_at-append shared more packet steps some) ∙ is
 
 -- Inputs that agree up to a bound name the same clauses of tags up to it.
 pub known_up_to : (bound : ℕ) (all inputs : List Known) (shared : List (List Known)) (own : List Known) (name : Ref) (one : Known)

@@ -18,6 +18,7 @@ use Rattle.trace_core.specs.Trace.{IsOkStep, greatest, known_of, AreOkSteps}
 use Rattle.trace_core.specs.Law.{OkStepStaysOk, StepIsSound, ProofIsSound, TautologyHolds, clauses_up_to, TagBoundsInputs, TraceIsSound}
 use Rattle.trace_core.specs.declared.derivation.Step.{Step}
 pub use Rattle.trace_core.proofs.Items.{item_at-contains}
+use Rattle.trace_core.proofs.Items.{nothing_in, Contains-from_filter}
 
 -- a true literal isn't false
 not_both : (values : List Bool) (lit : ℕ) → IsTrue (lit_true values lit) → IsTrue (lit_true values (opposite lit)) → ⊥
@@ -156,18 +157,6 @@ through_hints clauses table step ok each =
         let named = named_of (table m.0) (All-contains (λ hint. IsSome (table hint)) step.hints m.0 ok.all_known m.1) in
         subst (Entails clauses) (sym named.2 ∙ m.2) (each m.0 named.0 m.1 named.1)
 
-Contains-from_filter : {X : Type 0} (p : X → Bool) (xs : List X) (x : X) → Contains (filter p xs) x → Contains xs x × IsTrue (p x)
-Contains-from_filter p [] x (k, lt, is) = absurd (omega arith)
-Contains-from_filter p (y ∷ xs) x has = by_test (λ h. Contains-from_filter p xs x h) (cases_Bool (p y)) has
-  where
-    in_front : (Contains (filter p xs) x → Contains xs x × IsTrue (p x)) → IsTrue (p y) → (y ≡ x) ⊎ Contains (filter p xs) x → Contains (y ∷ xs) x × IsTrue (p x)
-    in_front recur pass (inl same) = (subst (Contains (y ∷ xs)) same (Contains-here y xs), ap p (sym same) ∙ pass)
-    in_front recur pass (inr later) = let h = recur later in (Contains-there y x xs h.0, h.1)
-
-    by_test : (Contains (filter p xs) x → Contains xs x × IsTrue (p x)) → (p y ≡ true) ⊎ (p y ≡ false) → Contains (cond (p y) (y ∷ filter p xs) (filter p xs)) x → Contains (y ∷ xs) x × IsTrue (p x)
-    by_test recur (inl pass) h = in_front recur pass (Contains-cases y x (filter p xs) (subst (λ b. Contains (cond b (y ∷ filter p xs) (filter p xs)) x) pass h))
-    by_test recur (inr fail) h = let m = recur (subst (λ b. Contains (cond b (y ∷ filter p xs) (filter p xs)) x) fail h) in (Contains-there y x xs m.0, m.1)
-
 -- more inputs count up to a greater tag
 up_to_grows : (inputs : List Known) (low high : ℕ) (clause : List ℕ) → low ≤ high → Entails (clauses_up_to inputs low) clause → Entails (clauses_up_to inputs high) clause
 up_to_grows inputs low high clause le =
@@ -191,16 +180,18 @@ tag_bounds_inputs inputs table step each ok =
     (λ hint named has is. up_to_grows inputs named.tag step.tag named.clause
     (hint_tag_within table step hint named ok has is) (each hint named is))
 
--- no list of none has an item
-pub nothing_in : {X : Type 0} (x : X) → Contains [] x → ⊥
-nothing_in x (k, lt, is) = omega arith
-
-pub nothing_shared : (packet step : ℕ) (named : Known) → option_and_then (λ (steps : List Known). item_at steps step) (item_at [] packet) ≡ Some named → ⊥
-nothing_shared packet step named = guarded (packet == 0)
+-- Without packets a reference to a step of one names nothing.
+pub no_shared : (packet step : ℕ)
+    → IsSome (option_and_then (λ (steps : List Known). item_at steps step) (item_at [] packet)) → ⊥
+no_shared packet step = guarded (packet == 0)
   where
-    guarded : (b : Bool) → option_and_then (λ (steps : List Known). item_at steps step) (cond b None None) ≡ Some named → ⊥
-    guarded true is = cc
-    guarded false is = cc
+    guarded : (b : Bool) → IsSome (option_and_then (λ (steps : List Known). item_at steps step) (cond b None None)) → ⊥
+    guarded true some = cc
+    guarded false some = cc
+
+pub nothing_shared : (packet step : ℕ) (named : Known)
+    → option_and_then (λ (steps : List Known). item_at steps step) (item_at [] packet) ≡ Some named → ⊥
+nothing_shared packet step named is = no_shared packet step (subst IsSome (sym is) refl)
 
 -- Over inputs and own steps, where each own step's clause follows from the inputs, so does each known clause.
 known_follow : (inputs own : List Known) → ((k : Known) → Contains own k → Entails (map (λ input. input.clause) inputs) k.clause)

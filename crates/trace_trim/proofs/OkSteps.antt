@@ -11,24 +11,11 @@ use Rattle.trace_core.specs.Known.{Known, known, item_at, AgreeUpTo, clause_of, 
 use Rattle.trace_core.specs.Propagation.{IsProved}
 use Rattle.trace_core.specs.Trace.{IsOkStep, AreOkSteps, AreOkPackets, known_of, greatest}
 use Rattle.trace_core.specs.declared.derivation.Step.{Step}
-use Rattle.trace_core.proofs.Soundness.{ok_step_stays_ok, stays_ok_up_to_tag, hint_tag_within, item_at-contains}
+use Rattle.trace_core.proofs.Soundness.{ok_step_stays_ok, stays_ok_up_to_tag, hint_tag_within}
+use Rattle.trace_core.proofs.Items.{item_at-contains, item_at-map}
+use Rattle.trace_core.proofs.Elsewhere.{known_with_own, known_with_packets}
 use Rattle.trace_trim.specs.Names.{step_named, cited, Cites}
 use Rattle.trace_trim.specs.Reached.{IsCitedAlong}
-use Rattle.trace_trim.proofs.Zips.{item_at-append, item_at-map}
-
-known_grows : (inputs : List Known) (packets : List (List Known)) (own more : List Known) (name : Ref) (named : Known) → known inputs packets own name ≡ Some named → known inputs packets (own ++ more) name ≡ Some named
-known_grows inputs packets own more (Input n) named is = is
-known_grows inputs packets own more (Shared p s) named is = is
-known_grows inputs packets own more (Own n) named is = item_at-append own more n named is
-
-packets_grow : (inputs : List Known) (packets more : List (List Known)) (own : List Known) (name : Ref) (named : Known) → known inputs packets own name ≡ Some named → known inputs (packets ++ more) own name ≡ Some named
-packets_grow inputs packets more own (Input n) named is = is
-packets_grow inputs packets more own (Own n) named is = is
-packets_grow inputs packets more own (Shared p s) named is = by_packet (item_at packets p) refl is
-  where
-    by_packet : (o : Option (List Known)) → item_at packets p ≡ o → option_and_then (λ (steps : List Known). item_at steps s) o ≡ Some named → option_and_then (λ (steps : List Known). item_at steps s) (item_at (packets ++ more) p) ≡ Some named
-    by_packet None none is = absurd (cc)
-    by_packet (Some steps) some is = ap (option_and_then (λ (steps : List Known). item_at steps s)) (item_at-append packets more p steps some) ∙ is
 
 -- each of the steps is ok over all of them
 pub ok_in_the_end : (inputs : List Known) (packets : List (List Known)) (own : List Known) (steps : List Step) (step : Step) → AreOkSteps inputs packets own steps → Contains steps step → IsOkStep (known inputs packets (own ++ map known_of steps)) step
@@ -37,7 +24,7 @@ ok_in_the_end inputs packets own (first ∷ steps) step ok has = by_case (λ lat
   where
     by_case : (Contains steps step → IsOkStep (known inputs packets ((own ++ known_of first ∷ []) ++ map known_of steps)) step) → (first ≡ step) ⊎ Contains steps step → IsOkStep (known inputs packets (own ++ known_of first ∷ map known_of steps)) step
     by_case recur (inl same) = subst (IsOkStep (known inputs packets (own ++ known_of first ∷ map known_of steps))) same
-        (ok_step_stays_ok (known inputs packets own) (known inputs packets (own ++ known_of first ∷ map known_of steps)) first (known_grows inputs packets own (known_of first ∷ map known_of steps)) ok.0)
+        (ok_step_stays_ok (known inputs packets own) (known inputs packets (own ++ known_of first ∷ map known_of steps)) first (known_with_own inputs packets own (known_of first ∷ map known_of steps)) ok.0)
     by_case recur (inr later) = subst (λ all. IsOkStep (known inputs packets all) step) (append_assoc own (known_of first ∷ []) (map known_of steps)) (recur later)
 
 -- each step of the packets is ok over all of the packets and its own
@@ -51,7 +38,7 @@ ok_in_packets inputs before (first ∷ packets) packet step ok there has = by_ca
     by_case : (Contains packets packet → IsOkStep (known inputs ((before ++ map known_of first ∷ []) ++ map (λ packet. map known_of packet) packets) (map known_of packet)) step) → (first ≡ packet) ⊎ Contains packets packet
         → IsOkStep (known inputs (before ++ map known_of first ∷ map (λ packet. map known_of packet) packets) (map known_of packet)) step
     by_case recur (inl same) = ok_step_stays_ok (known inputs before (map known_of packet)) (known inputs (before ++ map known_of first ∷ map (λ packet. map known_of packet) packets) (map known_of packet)) step
-        (packets_grow inputs before (map known_of first ∷ map (λ packet. map known_of packet) packets) (map known_of packet))
+        (known_with_packets inputs before (map known_of first ∷ map (λ packet. map known_of packet) packets) (map known_of packet))
         (ok_in_the_end inputs before [] packet step (subst (AreOkSteps inputs before []) same ok.0) has)
     by_case recur (inr later) = subst (λ all. IsOkStep (known inputs all (map known_of packet)) step) (append_assoc before (map known_of first ∷ []) (map (λ packet. map known_of packet) packets)) (recur later)
 

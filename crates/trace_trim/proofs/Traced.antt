@@ -2,6 +2,7 @@
 use Rattle.std.proofs.Common.{◌≡◌, ◌∙◌, ℕ, ◌-◌, ◌<◌, ◌≤◌, List, [], ◌∷◌, ◌++◌, map, take, length, get_or, refl, subst, sym, ap, inl, inr, arith}
 use Rattle.std.specs.Prelude.{Contains, ◌⊎◌, ◌↔◌, Some, AllPairs, slice_get, option_map}
 use Rattle.std.specs.List.{AllZip}
+use Rattle.std.proofs.lemmas.Option.{slice_get_within, get_or_from_slice_get}
 use Rattle.sat_base.proofs.Members.{Contains-here, Contains-there}
 use Rattle.sat_base.specs.Lit.{opposite}
 use Rattle.sat_base.specs.declared.origins.Ref.{Ref}
@@ -9,12 +10,12 @@ use Rattle.sat_base.specs.declared.origins.Ref.TheVariants.{Input, Shared, Own}
 use Rattle.trace_core.specs.Known.{Known, known, item_at}
 use Rattle.trace_core.specs.Trace.{IsOkStep, known_of}
 use Rattle.trace_core.specs.declared.derivation.Step.{Step}
-use Rattle.trace_core.proofs.Items.{slice_get-contains}
+use Rattle.trace_core.proofs.Items.{slice_get-contains, item_at-found, item_at-front, item_at-map}
 use Rattle.trace_trim.specs.Names.{step_named, cited, IsBefore, CiteEarlierSteps}
 use Rattle.trace_trim.specs.Trimmed.{IsRenumberedHint, IsRenumbered, IsTrimmed, IsTraceWhereOk}
 use Rattle.trace_trim.proofs.Order.{before_trans, not_before_itself}
 use Rattle.trace_trim.proofs.Found.{either_side}
-use Rattle.trace_trim.proofs.Zips.{zip_back, zip_item, zip_ends, item_at-front, item_at-map, slice_get-place, get_or-slice_get}
+use Rattle.trace_trim.proofs.Zips.{zip_back, zip_item, zip_ends}
 use Rattle.trace_trim.proofs.OkSteps.{ok_from_each, ok_named, ok_over_fewer, ok_renamed, reached_tag_within, known_by}
 
 -- what comes before the one at an index has a place up to it
@@ -23,13 +24,16 @@ pub place_before : {X : Type 0} (before : X → X → Type 0) → ((a b c : X) �
 place_before {X} before composes irreflexive ones i place user other ascending at_i at_place earlier = by_side (either_side i place)
   where
     here : (0 < place) × (slice_get ones (place - 1) ≡ Some other)
-    here = slice_get-place ones place other at_place
+    here = item_at-found ones place other at_place
 
     user_at : (i < length ones) × (get_or ones i user ≡ user)
-    user_at = get_or-slice_get ones i user user at_i
+    user_at = (slice_get_within ones i user at_i, get_or_from_slice_get ones i user user at_i)
 
     other_at : (place - 1 < length ones) × (get_or ones (place - 1) user ≡ other)
-    other_at = get_or-slice_get ones (place - 1) user other here.1
+    other_at = (
+      slice_get_within ones (place - 1) other here.1,
+      get_or_from_slice_get ones (place - 1) other user here.1,
+    )
 
     not_later : (i < place - 1) ⊎ (place - 1 ≤ i) → i < place → place ≤ i
     not_later (inl above) lt =
