@@ -1,5 +1,7 @@
 -- The input clauses of one job after another.
-use Rattle.std.proofs.Common.{◌≡◌, ◌∙◌, ℕ, zero, suc, ◌+◌, ◌-◌, ◌<◌, ◌≤◌, Bool, true, false, cond, Some, List, [], ◌∷◌, ◌++◌, map, length, refl, ap, subst, sym, inl, inr, arith, append_assoc, add-one}
+use Rattle.std.proofs.Common.{◌≡◌, ◌∙◌, ℕ, zero, suc, ◌+◌, ◌-◌, ◌<◌, ◌≤◌, Bool, true, false, cond}
+use Rattle.std.proofs.Common.{Some, List, [], ◌∷◌, ◌++◌, map, length, refl, ap, subst, sym, inl}
+use Rattle.std.proofs.Common.{inr, arith, append_assoc, add-one}
 use Rattle.std.specs.Prelude.{◌⊎◌, filter, slice_get, nat_le, Contains}
 use Rattle.std.proofs.lemmas.Bool.Decides.{nat_tests}
 use Rattle.std.proofs.lemmas.List.Elements.{filter-append}
@@ -55,7 +57,8 @@ at_the_place bound first (suc place) (own ∷ rest) segment next is =
     ∙ ap (λ xs. xs ++ tagged (suc bound) segment.clauses) (sym (own_or_later bound first own rest))
 
 -- The item at a place is the one at the index before it, which is one less.
-pub item_found : {X : Type 0} (items : List X) (place : ℕ) (item : X) → item_at items place ≡ Some item
+pub item_found : {X : Type 0} (items : List X) (place : ℕ) (item : X)
+    → item_at items place ≡ Some item
     → (1 + (place - 1) ≡ place) × (slice_get items (place - 1) ≡ Some item)
 item_found items place item is =
     let at = item_at-found items place item is in (let positive = at.0 in omega arith, at.1)
@@ -97,12 +100,14 @@ pub record IsFrontUpTo (bound : ℕ) (all : List Known) : Type 0 where
 
 front_up_to : (bound first : ℕ) (all : List Segment) → IsFrontUpTo bound (tagged_from first all)
 front_up_to bound first [] = record { later = []; whole = refl; above = refl }
-front_up_to bound first (segment ∷ rest) = by_bound (front_up_to bound (suc first) rest) (nat_le first bound) refl
+front_up_to bound first (segment ∷ rest) =
+    by_bound (front_up_to bound (suc first) rest) (nat_le first bound) refl
   where
     own : List Known
     own = tagged first segment.clauses
 
-    by_bound : IsFrontUpTo bound (tagged_from (suc first) rest) → (b : Bool) → nat_le first bound ≡ b
+    by_bound : IsFrontUpTo bound (tagged_from (suc first) rest) → (b : Bool)
+        → nat_le first bound ≡ b
         → IsFrontUpTo bound (tagged_from first (segment ∷ rest))
     by_bound front true is = record {
       later = front.later;
@@ -110,12 +115,14 @@ front_up_to bound first (segment ∷ rest) = by_bound (front_up_to bound (suc fi
           ∙ sym (append_assoc own (up_to bound (tagged_from (suc first) rest)) front.later)
           ∙ ap (λ xs. xs ++ front.later) (sym (own_or_later bound first segment rest
           ∙ ap (λ xs. xs ++ up_to bound (tagged_from (suc first) rest))
-          (all_tagged bound first segment.clauses (let le : first ≤ bound = grind (arith, nat_tests) in le))));
+          (all_tagged bound first segment.clauses
+          (let le : first ≤ bound = grind (arith, nat_tests) in le))));
       above = front.above;
     }
     by_bound front false is =
         let none : up_to bound (tagged_from first (segment ∷ rest)) ≡ [] =
-        none_later bound first (segment ∷ rest) (let lt : bound < first = grind (arith, nat_tests) in lt) in
+        none_later bound first (segment ∷ rest)
+        (let lt : bound < first = grind (arith, nat_tests) in lt) in
         record {
           later = tagged_from first (segment ∷ rest);
           whole = ap (λ xs. xs ++ tagged_from first (segment ∷ rest)) (sym none);
@@ -123,11 +130,14 @@ front_up_to bound first (segment ∷ rest) = by_bound (front_up_to bound (suc fi
         }
 
 -- The inputs of a job are a front of all inputs.
-pub inputs_of_front : (journal : List Entry) (job : ℕ) → (later : List Known) × (inputs journal ≡ inputs_of journal job ++ later)
-inputs_of_front journal job = let front = front_up_to job 1 (segments journal) in (front.later, front.whole)
+pub inputs_of_front : (journal : List Entry) (job : ℕ)
+    → (later : List Known) × (inputs journal ≡ inputs_of journal job ++ later)
+inputs_of_front journal job =
+    let front = front_up_to job 1 (segments journal) in (front.later, front.whole)
 
 -- The inputs of a job agree with all inputs up to the job's number.
-pub inputs_of_agree : (journal : List Entry) (job : ℕ) → AgreeUpTo job (inputs journal) (inputs_of journal job)
+pub inputs_of_agree : (journal : List Entry) (job : ℕ)
+    → AgreeUpTo job (inputs journal) (inputs_of journal job)
 inputs_of_agree journal job number one is low =
     by_side (item_at-append_cases (inputs_of journal job) front.later number one
     (subst (λ all. item_at all number ≡ Some one) front.whole is))
@@ -137,8 +147,10 @@ inputs_of_agree journal job number one is low =
 
     not_later : Contains front.later one → ⊥
     not_later has = nothing_in one (subst (λ xs. Contains xs one) front.above
-        (Contains-filter (λ (input : Known). nat_le input.tag job) front.later one has (grind (arith, nat_tests))))
+        (Contains-filter (λ (input : Known). nat_le input.tag job) front.later one has
+        (grind (arith, nat_tests))))
 
-    by_side : (item_at (inputs_of journal job) number ≡ Some one) ⊎ Contains front.later one → item_at (inputs_of journal job) number ≡ Some one
+    by_side : (item_at (inputs_of journal job) number ≡ Some one) ⊎ Contains front.later one
+        → item_at (inputs_of journal job) number ≡ Some one
     by_side (inl before) = before
     by_side (inr later) = absurd (not_later later)

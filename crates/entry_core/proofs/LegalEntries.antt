@@ -1,5 +1,6 @@
 -- Each entry of a legal journal was allowed after the entries before it, and what it said stays right.
-use Rattle.std.proofs.Common.{◌≡◌, ◌∙◌, ℕ, ◌≤◌, Bool, true, false, cond, Option, Some, None, List, [], ◌∷◌, ◌++◌, refl, ap, subst, sym, inl, inr, arith, append_assoc}
+use Rattle.std.proofs.Common.{◌≡◌, ◌∙◌, ℕ, ◌≤◌, Bool, true, false, cond, Option, Some, None, List}
+use Rattle.std.proofs.Common.{[], ◌∷◌, ◌++◌, refl, ap, subst, sym, inl, inr, arith, append_assoc}
 use Rattle.std.specs.Prelude.{◌⊎◌, Contains, filter_map, not, ◌||◌}
 use Rattle.std.specs.List.{cons_option}
 use Rattle.std.specs.Arc.{arc_value}
@@ -61,10 +62,14 @@ into_reading {X} {Y} read (item ∷ rest) x y has is = by_item (read item) refl 
 
 -- Entries are legal with one more behind them that is allowed then.
 pub legal_after : (rules : Rules) (before journal : List Entry) (entry : Entry)
-    → IsLegalAfter rules before journal → IsAllowed rules (before ++ journal) entry.caller entry.event
+    → IsLegalAfter rules before journal
+    → IsAllowed rules (before ++ journal) entry.caller entry.event
     → IsLegalAfter rules before (journal ++ entry ∷ [])
-legal_after rules before [] entry legal allowed =
-    (subst (λ (all : List Entry). IsAllowed rules all entry.caller entry.event) (append-nil before) allowed, tt)
+legal_after rules before [] entry legal allowed = (
+  subst (λ (all : List Entry). IsAllowed rules all entry.caller entry.event) (append-nil before)
+      allowed,
+  tt,
+)
 legal_after rules before (first ∷ rest) entry legal allowed = (
   legal.0,
   legal_after rules (before ++ first ∷ []) rest entry legal.1
@@ -88,7 +93,9 @@ pub record WasAllowed (rules : Rules) (journal : List Entry) (entry : Entry) : T
 allowed_after : (rules : Rules) (before rest : List Entry) (entry : Entry) → IsLegal rules before → IsLegalAfter rules before rest → Contains rest entry → WasAllowed rules (before ++ rest) entry
 allowed_after rules before [] entry past legal (k, lt, is) = absurd (omega arith)
 allowed_after rules before (first ∷ rest) entry past legal has =
-    here_or_later (λ later. allowed_after rules (before ++ first ∷ []) rest entry (legal_push rules before first past legal.0) legal.1 later) (Contains-cases first entry rest has)
+    here_or_later (λ later. allowed_after rules (before ++ first ∷ []) rest entry
+    (legal_push rules before first past legal.0) legal.1 later)
+    (Contains-cases first entry rest has)
   where
     here_or_later : (Contains rest entry → WasAllowed rules ((before ++ first ∷ []) ++ rest) entry) → (first ≡ entry) ⊎ Contains rest entry → WasAllowed rules (before ++ first ∷ rest) entry
     here_or_later recur (inl same) = record {

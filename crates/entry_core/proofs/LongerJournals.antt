@@ -1,5 +1,7 @@
 -- What a longer journal keeps.
-use Rattle.std.proofs.Common.{◌≡◌, ◌∙◌, ℕ, suc, ◌+◌, ◌<◌, ◌≤◌, false, cond, Option, Some, None, List, [], ◌∷◌, ◌++◌, map, length, refl, ap, sym, arith, append_assoc, length-append}
+use Rattle.std.proofs.Common.{◌≡◌, ◌∙◌, ℕ, suc, ◌+◌, ◌<◌, ◌≤◌, false, cond, Option, Some, None}
+use Rattle.std.proofs.Common.{List, [], ◌∷◌, ◌++◌, map, length, refl, ap, sym, arith, append_assoc}
+use Rattle.std.proofs.Common.{length-append}
 use Rattle.std.specs.Prelude.{filter, nat_le}
 use Rattle.std.proofs.lemmas.Bool.Decides.{nat_tests}
 use Rattle.std.proofs.lemmas.List.Elements.{filter-append, filter_map-append}
@@ -59,7 +61,8 @@ inputs_kept journal more job le =
 
 pub cubes_kept : (journal more : List Entry) (job : ℕ) → job ≤ jobs journal → cube_of (journal ++ more) job ≡ cube_of journal job
 cubes_kept journal more job le =
-    ap (λ all. cube_in (item_at all job)) (segments-append journal more) ∙ ap cube_in (item_at-kept (segments journal) (segments more) job le)
+    ap (λ all. cube_in (item_at all job)) (segments-append journal more)
+    ∙ ap cube_in (item_at-kept (segments journal) (segments more) job le)
 
 -- a verdict that stands is not changed by later entries
 pub verdict_kept : (rules : Rules) (before journal more : List Entry) (job : ℕ) (verdict : Verdict)
@@ -73,7 +76,8 @@ verdict_kept rules before (entry ∷ journal) more job verdict is =
     first (Some found) recur h = h
     first None recur h = recur h
 
--- Where no case stands after some entries, and none settles the job behind them, none stands after all.
+-- Where no case stands after some entries, and none settles the job behind them, none stands after
+-- all.
 pub no_case_later : (rules : Rules) (before journal : List Entry) (job : ℕ)
     → standing rules before job ≡ None → settled_after rules before journal job ≡ None
     → standing rules (before ++ journal) job ≡ None

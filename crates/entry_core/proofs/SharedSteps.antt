@@ -1,5 +1,6 @@
 -- Every step of a shared packet follows from the input clauses up to its tag.
-use Rattle.std.proofs.Common.{◌≡◌, ℕ, Option, Some, None, List, [], ◌∷◌, ◌++◌, map, refl, subst, sym}
+use Rattle.std.proofs.Common.{◌≡◌, ℕ, Option, Some, None, List, [], ◌∷◌, ◌++◌, map, refl, subst}
+use Rattle.std.proofs.Common.{sym}
 use Rattle.std.proofs.Common.{inl, inr, arith, append_assoc}
 use Rattle.std.specs.Prelude.{◌⊎◌, true, Contains, filter, nat_le, option_and_then}
 use Rattle.std.proofs.lemmas.Bool.Decides.{nat_tests}
@@ -8,7 +9,8 @@ use Rattle.std.proofs.lemmas.List.Elements.{Contains-push_cases}
 use Rattle.sat_base.specs.Truth.{clause_true, Entails}
 use Rattle.sat_base.specs.declared.origins.Ref.{Ref}
 use Rattle.sat_base.specs.declared.origins.Ref.TheVariants.{Input, Shared, Own}
-use Rattle.sat_base.proofs.Members.{all_member, Contains-map, Contains-from_map, Contains-filter, Contains-cases}
+use Rattle.sat_base.proofs.Members.{all_member, Contains-map, Contains-from_map, Contains-filter}
+use Rattle.sat_base.proofs.Members.{Contains-cases}
 use Rattle.trace_core.specs.Known.{Known, known, item_at}
 use Rattle.trace_core.specs.Trace.{AreOkSteps, AreOkPackets, known_of}
 use Rattle.trace_core.specs.Law.{clauses_up_to}
@@ -42,7 +44,8 @@ in_packets lists packet place named is = found (item_at lists packet) refl is
 
 -- What a reference of a packet names holds.
 known_holds : (all : List Known) (before : List (List Known)) (own : List Known)
-    → ((steps : List Known) (named : Known) → Contains before steps → Contains steps named → Holds all named)
+    → ((steps : List Known) (named : Known) → Contains before steps → Contains steps named
+    → Holds all named)
     → ((named : Known) → Contains own named → Holds all named)
     → (name : Ref) (named : Known) → known all before own name ≡ Some named → Holds all named
 known_holds all before own packets each (Input number) named is =
@@ -54,16 +57,20 @@ known_holds all before own packets each (Own number) named is =
 
 -- The steps of a packet that is ok over the inputs hold, where those of the packets before it do.
 steps_hold : (all : List Known) (before : List (List Known)) (own : List Known) (steps : List Step)
-    → ((earlier : List Known) (named : Known) → Contains before earlier → Contains earlier named → Holds all named)
+    → ((earlier : List Known) (named : Known) → Contains before earlier → Contains earlier named
+    → Holds all named)
     → ((named : Known) → Contains own named → Holds all named)
-    → AreOkSteps all before own steps → (step : Step) → Contains steps step → Holds all (known_of step)
+    → AreOkSteps all before own steps → (step : Step) → Contains steps step
+    → Holds all (known_of step)
 steps_hold all before own [] packets each ok step has = absurd (nothing_in step has)
 steps_hold all before own (first ∷ steps) packets each ok step has =
-    here_or_later (λ later. steps_hold all before (own ++ known_of first ∷ []) steps packets more ok.1 step later)
+    here_or_later (λ later. steps_hold all before (own ++ known_of first ∷ []) steps packets more
+    ok.1 step later)
     (Contains-cases first step steps has)
   where
     holds : Holds all (known_of first)
-    holds = tag_bounds_inputs all (known all before own) first (known_holds all before own packets each) ok.0
+    holds = tag_bounds_inputs all (known all before own) first
+        (known_holds all before own packets each) ok.0
 
     more : (named : Known) → Contains (own ++ known_of first ∷ []) named → Holds all named
     more named there = old_or_new (Contains-push_cases own (known_of first) named there)
@@ -91,7 +98,8 @@ so_far all before holds steps named has there =
 
 -- The steps of packets that are ok one after the other hold.
 packets_hold : (all : List Known) (before packets : List (List Step)) → AllHold all before
-    → AreOkPackets all (map (λ packet. map known_of packet) before) packets → AllHold all (before ++ packets)
+    → AreOkPackets all (map (λ packet. map known_of packet) before) packets
+    → AllHold all (before ++ packets)
 packets_hold all before [] holds ok = subst (AllHold all) (sym (append-nil before)) holds
 packets_hold all before (packet ∷ packets) holds ok =
     subst (AllHold all) (append_assoc before (packet ∷ []) packets)
@@ -102,10 +110,12 @@ packets_hold all before (packet ∷ packets) holds ok =
     with_one : AllHold all (before ++ packet ∷ [])
     with_one one step has there = old_or_new (Contains-push_cases before packet one has) there
       where
-        old_or_new : Contains before one ⊎ (packet ≡ one) → Contains one step → Holds all (known_of step)
+        old_or_new : Contains before one ⊎ (packet ≡ one) → Contains one step
+            → Holds all (known_of step)
         old_or_new (inl old) within = holds one step old within
         old_or_new (inr same) within =
-            steps_hold all (map (λ steps. map known_of steps) before) [] packet (so_far all before holds)
+            steps_hold all (map (λ steps. map known_of steps) before) [] packet
+            (so_far all before holds)
             (λ named none. absurd (nothing_in named none)) ok.0 step
             (subst (λ (xs : List Step). Contains xs step) (sym same) within)
 

@@ -71,7 +71,8 @@ found_in {X} test (item ∷ rest) x is = by_test (test item) refl (λ h. found_i
 -- what a reading of a journal gives, it gives of a longer one
 reading_kept : {X : Type 0} (read : Entry → Option X) (journal more : List Entry) (x : X) → Contains (filter_map read journal) x → Contains (filter_map read (journal ++ more)) x
 reading_kept read journal more x has =
-    subst (λ items. Contains items x) (sym (filter_map-append read journal more)) (Contains-append_left (filter_map read journal) (filter_map read more) x has)
+    subst (λ items. Contains items x) (sym (filter_map-append read journal more))
+    (Contains-append_left (filter_map read journal) (filter_map read more) x has)
 
 same_job : (number job : ℕ) → (number == job) ≡ true → number ≡ job
 same_job number job is = grind (arith, nat_tests)

@@ -23,7 +23,8 @@ abbrev pub PacketsAreOk : Type 0
 PacketsAreOk = (rules : Rules) (journal : List Entry) → IsLegal rules journal
     → AreOkPackets (inputs journal) [] (packets journal)
 
--- The last step of a packet proves a short clause, no tautology, whose variables are those of the input clauses up to its tag.
+-- The last step of a packet proves a short clause, no tautology, whose variables are those of the
+-- input clauses up to its tag.
 -- That tag is the number of a job, and no other one in the packet is above it.
 pub record IsBounded (journal : List Entry) (packet : List Step) : Type 0 where
   pub front : List Step
@@ -37,7 +38,8 @@ pub record IsBounded (journal : List Entry) (packet : List Step) : Type 0 where
 
 -- Each shared packet is bounded.
 abbrev pub PacketsAreBounded : Type 0
-PacketsAreBounded = (rules : Rules) (journal : List Entry) (packet : List Step) → IsLegal rules journal
+PacketsAreBounded = (rules : Rules) (journal : List Entry) (packet : List Step)
+    → IsLegal rules journal
     → Contains (packets journal) packet → IsBounded journal packet
 
 -- what the first journal says, the second one says too

@@ -30,9 +30,17 @@ held_if_uncovered Uncovered h = h
 
 pub assumed_none : (marks : List Mark) (lits : List ℕ) → AreFree marks → lits ≡ [] → Assumed [] marks lits
 assumed_none marks lits free empty = record {
-  agree = λ lit. (λ h. absurd (both_ways (holds marks lit) (free lit) h), λ h. absurd (nothing_in lit (subst (λ (ls : List ℕ). Contains ls lit) empty h)));
+  agree = λ lit. (
+    λ h. absurd (both_ways (holds marks lit) (free lit) h),
+    λ h. absurd
+        (nothing_in lit (subst (λ (ls : List ℕ). Contains ls lit) empty h)),
+  );
   negations = empty;
-  uncovered = λ lit. (λ h. absurd (both_ways (holds marks lit) (free lit) (held_if_uncovered (get_or marks lit Free) h)), λ h. absurd (nothing_in (opposite lit) h));
+  uncovered = λ lit. (
+    λ h. absurd (both_ways (holds marks lit) (free lit)
+        (held_if_uncovered (get_or marks lit Free) h)),
+    λ h. absurd (nothing_in (opposite lit) h),
+  );
 }
 
 -- one more literal is assumed false

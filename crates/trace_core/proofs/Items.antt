@@ -27,8 +27,10 @@ Contains-from_filter p (y ∷ xs) x has =
         (subst (Contains (y ∷ xs)) same (Contains-here y xs), ap p (sym same) ∙ pass)
     in_front recur pass (inr later) = let h = recur later in (Contains-there y x xs h.0, h.1)
 
-    by_test : (Contains (filter p xs) x → Contains xs x × IsTrue (p x)) → (p y ≡ true) ⊎ (p y ≡ false)
-        → Contains (cond (p y) (y ∷ filter p xs) (filter p xs)) x → Contains (y ∷ xs) x × IsTrue (p x)
+    by_test : (Contains (filter p xs) x → Contains xs x × IsTrue (p x))
+        → (p y ≡ true) ⊎ (p y ≡ false)
+        → Contains (cond (p y) (y ∷ filter p xs) (filter p xs)) x
+        → Contains (y ∷ xs) x × IsTrue (p x)
     by_test recur (inl pass) h = in_front recur pass (Contains-cases y x (filter p xs)
         (subst (λ b. Contains (cond b (y ∷ filter p xs) (filter p xs)) x) pass h))
     by_test recur (inr fail) h =
@@ -81,7 +83,8 @@ pub item_at-next : {X : Type 0} (xs : List X) (i : ℕ) (x : X) → i < length x
     → item_at xs (i + 1) ≡ Some x
 item_at-next xs i x lt is =
     item_at-is xs (i + 1) (omega arith)
-    ∙ ap (slice_get xs) (let e : i + 1 - 1 ≡ i = omega arith in e) ∙ slice_get-get_or xs i x lt ∙ ap Some is
+    ∙ ap (slice_get xs) (let e : i + 1 - 1 ≡ i = omega arith in e) ∙ slice_get-get_or xs i x lt
+    ∙ ap Some is
 
 -- An item of a list has a place.
 pub place_of : {X : Type 0} (xs : List X) (x : X) → Contains xs x
@@ -118,7 +121,8 @@ item_at-front {X} xs n place x le is =
     let positive = at.0 in
     item_at-is (take n xs) place positive ∙ front xs n (place - 1) (omega arith) at.1
   where
-    front : (xs : List X) (n i : ℕ) → i < n → slice_get xs i ≡ Some x → slice_get (take n xs) i ≡ Some x
+    front : (xs : List X) (n i : ℕ) → i < n → slice_get xs i ≡ Some x
+        → slice_get (take n xs) i ≡ Some x
     front [] n i lt is = absurd (cc)
     front (y ∷ xs) zero i lt is = absurd (omega arith)
     front (y ∷ xs) (suc n) zero lt is = is
@@ -137,7 +141,8 @@ item_at-kept {X} xs ys place le = guarded (place == 0) refl
     guarded : (b : Bool) → (place == 0) ≡ b
         → cond b None (slice_get (xs ++ ys) (place - 1)) ≡ cond b None (slice_get xs (place - 1))
     guarded true is = refl
-    guarded false is = kept xs (place - 1) (let lt : place - 1 < length xs = grind (arith, nat_tests) in lt)
+    guarded false is =
+        kept xs (place - 1) (let lt : place - 1 < length xs = grind (arith, nat_tests) in lt)
 
 -- With more behind it a list still has its items at their places.
 pub item_at-append : {X : Type 0} (xs ys : List X) (place : ℕ) (x : X) → item_at xs place ≡ Some x
@@ -157,7 +162,8 @@ item_at-last {X} xs x place is =
     last [] = refl
     last (y ∷ xs) = last xs
 
-slice_get-append_cases : {X : Type 0} (xs ys : List X) (i : ℕ) (x : X) → slice_get (xs ++ ys) i ≡ Some x
+slice_get-append_cases : {X : Type 0} (xs ys : List X) (i : ℕ) (x : X)
+    → slice_get (xs ++ ys) i ≡ Some x
     → (slice_get xs i ≡ Some x) ⊎ Contains ys x
 slice_get-append_cases [] ys i x is = inr (slice_get-contains ys i x is)
 slice_get-append_cases (y ∷ xs) ys zero x is = inl is

@@ -1,5 +1,7 @@
 -- What ok steps prove is entailed.
-use Rattle.std.proofs.Common.{◌≡◌, ◌∙◌, ℕ, zero, suc, ◌≤◌, List, [], ◌∷◌, ◌++◌, map, Bool, true, false, not, Option, Some, None, cond, refl, ap, subst, sym, inl, inr, arith}
+use Rattle.std.proofs.Common.{◌≡◌, ◌∙◌, ℕ, zero, suc, ◌≤◌, List, [], ◌∷◌, ◌++◌, map, Bool, true}
+use Rattle.std.proofs.Common.{false, not, Option, Some, None, cond, refl, ap, subst, sym, inl, inr}
+use Rattle.std.proofs.Common.{arith}
 use Rattle.std.specs.Prelude.{IsTrue, IsSome, Contains, ◌⊎◌, ◌==◌, nat_le, option_and_then}
 use Rattle.std.specs.List.{filter}
 use Rattle.std.proofs.lemmas.Bool.{both_ways, and_parts, cases_Bool, cases_eq}
@@ -111,7 +113,8 @@ same_over f g (hint ∷ hints) same =
     cc
 
 -- The tag of what a hint of an ok step names is at most the step's.
-pub hint_tag_within : (table : Ref → Option Known) (step : Step) (hint : Ref) (named : Known) → IsOkStep table step
+pub hint_tag_within : (table : Ref → Option Known) (step : Step) (hint : Ref) (named : Known)
+    → IsOkStep table step
     → Contains step.hints hint → table hint ≡ Some named → named.tag ≤ step.tag
 hint_tag_within table step hint named ok has is =
     subst (λ bound. named.tag ≤ bound) (sym ok.exact_tag)
@@ -137,13 +140,15 @@ stays_ok_up_to_tag table more step keeps ok = record {
     agree : (hint : Ref) → Contains step.hints hint → table hint ≡ more hint
     agree hint has =
         let named = named_of (table hint) (known_here hint has) in
-        named.1 ∙ sym (keeps hint named.0 (hint_tag_within table step hint named.0 ok has named.1) named.1)
+        named.1 ∙ sym (keeps hint named.0 (hint_tag_within table step hint named.0 ok has named.1)
+        named.1)
 
 -- An ok step stays ok where more clauses are known.
 pub ok_step_stays_ok : (table more : Ref → Option Known) (step : Step)
     → ((name : Ref) (named : Known) → table name ≡ Some named → more name ≡ Some named)
     → IsOkStep table step → IsOkStep more step
-ok_step_stays_ok table more step keeps ok = stays_ok_up_to_tag table more step (λ name named low is. keeps name named is) ok
+ok_step_stays_ok table more step keeps ok =
+    stays_ok_up_to_tag table more step (λ name named low is. keeps name named is) ok
 
 -- what each known clause follows from, the clause of an ok step follows from
 through_hints : (clauses : List (List ℕ)) (table : Ref → Option Known) (step : Step) → IsOkStep table step
@@ -185,12 +190,15 @@ pub no_shared : (packet step : ℕ)
     → IsSome (option_and_then (λ (steps : List Known). item_at steps step) (item_at [] packet)) → ⊥
 no_shared packet step = guarded (packet == 0)
   where
-    guarded : (b : Bool) → IsSome (option_and_then (λ (steps : List Known). item_at steps step) (cond b None None)) → ⊥
+    guarded : (b : Bool)
+        → IsSome (option_and_then (λ (steps : List Known). item_at steps step) (cond b None None))
+        → ⊥
     guarded true some = cc
     guarded false some = cc
 
 pub nothing_shared : (packet step : ℕ) (named : Known)
-    → option_and_then (λ (steps : List Known). item_at steps step) (item_at [] packet) ≡ Some named → ⊥
+    → option_and_then (λ (steps : List Known). item_at steps step) (item_at [] packet) ≡ Some named
+    → ⊥
 nothing_shared packet step named is = no_shared packet step (subst IsSome (sym is) refl)
 
 -- Over inputs and own steps, where each own step's clause follows from the inputs, so does each known clause.

@@ -1,5 +1,6 @@
 -- Known clauses, and which of them a reference names.
-use Rattle.std.specs.Prelude.{◌≡◌, ℕ, ◌-◌, ◌≤◌, ◌==◌, if◌then◌else◌, Option, None, Some, List, [], slice_get, option_and_then}
+use Rattle.std.specs.Prelude.{◌≡◌, ℕ, ◌-◌, ◌≤◌, ◌==◌, if◌then◌else◌, Option, None, Some, List, []}
+use Rattle.std.specs.Prelude.{slice_get, option_and_then}
 use Rattle.sat_base.specs.declared.origins.Ref.{Ref}
 use Rattle.sat_base.specs.declared.origins.Ref.TheVariants.{Input, Shared, Own}
 

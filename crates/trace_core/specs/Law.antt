@@ -16,10 +16,12 @@ StepIsSound = (table : Ref → Option Known) (step : Step) → IsOkStep table st
 abbrev pub ProofIsSound : Type 0
 ProofIsSound = (hinted : List (List ℕ)) (clause : List ℕ) → IsProved hinted clause → Entails hinted clause
 
--- An ok step stays ok over another table that names, of the clauses up to the step's tag, at least the same ones.
+-- An ok step stays ok over another table that names, of the clauses up to the step's tag, at least
+-- the same ones.
 abbrev pub OkStepStaysOk : Type 0
 OkStepStaysOk = (table more : Ref → Option Known) (step : Step)
-    → ((name : Ref) (named : Known) → named.tag ≤ step.tag → table name ≡ Some named → more name ≡ Some named)
+    → ((name : Ref) (named : Known) → named.tag ≤ step.tag → table name ≡ Some named
+    → more name ≡ Some named)
     → IsOkStep table step → IsOkStep more step
 
 -- A tautology follows from nothing.

@@ -1,5 +1,6 @@
 -- A binary search among names in their order finds each of them.
-use Rattle.std.proofs.Common.{◌≡◌, ℕ, zero, suc, ◌+◌, ◌<◌, ◌≤◌, List, length, get_or, refl, subst, sym, ap, inl, inr, arith}
+use Rattle.std.proofs.Common.{◌≡◌, ℕ, zero, suc, ◌+◌, ◌<◌, ◌≤◌, List, length, get_or, refl, subst}
+use Rattle.std.proofs.Common.{sym, ap, inl, inr, arith}
 use Rattle.std.specs.Prelude.{Contains, ◌⊎◌, Some, AllPairs, Err}
 use Rattle.std.specs.Ordering.{ordering_index}
 use Rattle.std.specs.declared.cmp.Ordering.{Ordering}

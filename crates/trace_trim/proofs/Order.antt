@@ -1,6 +1,7 @@
 -- The order of names, and a rank that rises with it.
 use Rattle.std.proofs.Common.{◌≡◌, ℕ, zero, suc, ◌+◌, ◌*◌, ◌-◌, ◌<◌, ◌≤◌, List, [], ◌∷◌, length, refl, subst, sym, ap, inl, inr, arith}
-use Rattle.std.specs.Prelude.{Contains, ◌⊎◌, Option, Some, None, IsSome, max, slice_get, option_and_then}
+use Rattle.std.specs.Prelude.{Contains, ◌⊎◌, Option, Some, None, IsSome, max, slice_get}
+use Rattle.std.specs.Prelude.{option_and_then}
 use Rattle.std.proofs.Math.Nat.{mul-le-mul_right}
 use Rattle.std.proofs.lemmas.Bool.Decides.{nat_tests}
 use Rattle.sat_base.proofs.Members.{Contains-here, Contains-there, Contains-cases}

@@ -2,6 +2,8 @@
 use Rattle.std.proofs.Common.{◌≡◌, ◌∙◌, ℕ, zero, suc, ◌-◌, List, [], ◌∷◌, ◌++◌, refl, subst, ap}
 use Rattle.std.specs.Prelude.{Some, slice_get}
 use Rattle.std.specs.List.{AllZip}
+use Rattle.std.specs.Prelude.{Contains}
+use Rattle.sat_base.proofs.Members.{Contains-here, Contains-there}
 use Rattle.trace_core.specs.Known.{item_at}
 use Rattle.trace_core.proofs.Items.{item_at-found, item_at-is}
 pub use Rattle.trace_core.proofs.Items.{item_at-map, item_at-found as slice_get-place}
@@ -11,6 +13,17 @@ zip_push R [] [] x y zip one = (one, tt)
 zip_push R [] (z ∷ ys) x y zip one = absurd zip
 zip_push R (w ∷ xs) [] x y zip one = absurd zip
 zip_push R (w ∷ xs) (z ∷ ys) x y zip one = (zip.0, zip_push R xs ys x y zip.1 one)
+
+-- What goes together with each item of the first list, under what holds of these items.
+pub zip_each : {A B : Type 0} (R S : A → B → Type 0) (xs : List A) (ys : List B)
+    → ((x : A) (y : B) → Contains xs x → R x y → S x y) → AllZip R xs ys → AllZip S xs ys
+zip_each R S [] [] each zip = zip
+zip_each R S [] (y ∷ ys) each zip = zip
+zip_each R S (x ∷ xs) [] each zip = zip
+zip_each R S (x ∷ xs) (y ∷ ys) each zip = (
+  each x y (Contains-here x xs) zip.0,
+  zip_each R S xs ys (λ w z has. each w z (Contains-there x w xs has)) zip.1,
+)
 
 pub zip_back : {A B : Type 0} (R : A → B → Type 0) (xs : List A) (ys : List B) (i : ℕ) (y : B) → AllZip R xs ys → slice_get ys i ≡ Some y → (x : A) × (slice_get xs i ≡ Some x) × R x y
 zip_back R [] [] i y zip is = absurd (cc)

@@ -38,10 +38,13 @@ pub record IsTrimmed (packets : List (List Step)) (own : List Step) (last : ℕ)
   pub reached : AreNamesReached packets own last names
   pub renumbered : AllZip (IsRenumbered packets own names) names trimmed
 
--- Where the packets and the own steps are ok over all inputs, the steps are a trace over any inputs among which those up to the last
+-- Where the packets and the own steps are ok over all inputs, the steps are a trace over any inputs
+-- among which those up to the last
 -- step's tag stand at the same places. It refutes each part whose negation is the last clause.
 abbrev pub IsTraceWhereOk : List (List Step) → List Step → ℕ → List Step → Type 0
 IsTraceWhereOk packets own last trimmed = (all inputs : List Known) (part : List ℕ) (step : Step)
-    → AreOkPackets all [] packets → AreOkSteps all (map (λ packet. map known_of packet) packets) [] own
+    → AreOkPackets all [] packets
+    → AreOkSteps all (map (λ packet. map known_of packet) packets) [] own
     → item_at own last ≡ Some step → AgreeUpTo step.tag all inputs
-    → ((lit : ℕ) → Contains step.clause lit ↔ Contains part (opposite lit)) → IsTrace inputs part trimmed
+    → ((lit : ℕ) → Contains step.clause lit ↔ Contains part (opposite lit))
+    → IsTrace inputs part trimmed
