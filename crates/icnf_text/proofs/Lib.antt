@@ -1,4 +1,3 @@
-pub mod SortedSets
 pub mod Tokens
 pub mod Lines
 pub mod TokenKinds

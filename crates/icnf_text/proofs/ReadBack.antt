@@ -13,7 +13,7 @@ use Rattle.std.proofs.lemmas.List.Elements.{All-from_recursion, recursion_from_A
 use Rattle.std.proofs.lemmas.List.Sums.{sum_by-cons}
 use Rattle.std.proofs.lemmas.List.Splits.{slice_split_at}
 use Rattle.std.proofs.lemmas.Str.Parse.{IsNumeralModel, numerals_by_value, tells_all_ascii_digits}
-use Rattle.sat_base.specs.Lit.{variable, is_negative, IsLit, IsLitSet}
+use Rattle.sat_base.specs.Lit.{variable, is_negative, IsLit, IsLitSet, in_order}
 use Rattle.icnf_text.specs.declared.statements.Statement.{Statement}
 use Rattle.icnf_text.specs.declared.statements.Statement.TheVariants.{Clause, Cube}
 use Rattle.icnf_text.specs.Layout.{is_blank, is_line_feed, is_word, lines_of, words_of, is_comment, begins_with_c, Token, tokens_on, tokens_from, tokens_of, line_behind, last_line}
@@ -23,12 +23,12 @@ use Rattle.icnf_text.specs.declared.faults.Fault.{Fault}
 use Rattle.icnf_text.specs.declared.words.Word.TheVariants as word
 use Rattle.icnf_text.specs.declared.parser.Open.{Open}
 use Rattle.icnf_text.specs.declared.parser.Open.TheVariants as open_as
-use Rattle.icnf_text.specs.Judgement.{Header, Found, header_of, is_behind, set_of, is_clause, statements_of, wrong_after, open_of, statements_under, wrong_under, wrong_end, statements, wrong}
+use Rattle.icnf_text.specs.Judgement.{Header, Found, header_of, is_behind, is_clause, statements_of, wrong_after, open_of, statements_under, wrong_under, wrong_end, statements, wrong}
 use Rattle.icnf_text.specs.Machine.{Parse, Taken, goes_on, stops, begun, begun_at, mark_at, lit_code, literal_taken, pushed_unless, closed_unless, token_taken, statement_as, start}
 use Rattle.icnf_text.proofs.Tokens.{IsWord}
 use Rattle.icnf_text.proofs.TokenKinds.{lit_code-within}
 use Rattle.icnf_text.proofs.Lines.{closed_from, tokens_from-push}
-use Rattle.icnf_text.proofs.SortedSets.{set_is}
+use Rattle.sat_base.proofs.InOrder.{in_order-itself}
 use Rattle.icnf_text.proofs.Grammar.{right_all}
 use Rattle.icnf_text.proofs.StatementStates.{Holds, IsOpen, Takes, token_takes}
 use Rattle.icnf_text.proofs.Truth.{short_statements, short_wrong_end}
@@ -317,7 +317,7 @@ lits_go (lit ∷ lits) n parse tokens out all h begins low =
 
 -- `0`
 closes : (n : ℕ) (parse next : Parse) (tokens : List Token) (out : List Numbered) → Holds parse tokens out → begun parse n ≡ goes_on next →
-    Holds (record next { opened = open_as.Nothing; lits = [] }) (tokens ++ tagged n (codes "0" ∷ [])) (out ++ record { line = next.start; statement = statement_as next.opened (set_of next.lits) } ∷ [])
+    Holds (record next { opened = open_as.Nothing; lits = [] }) (tokens ++ tagged n (codes "0" ∷ [])) (out ++ record { line = next.start; statement = statement_as next.opened (in_order next.lits) } ∷ [])
 closes n parse next tokens out h begin =
     let t : Token = record { line = n; bytes = codes "0" } in
     let takes = token_takes word.Zero parse tokens t out refl (omega arith) h in
@@ -332,9 +332,6 @@ record Done (parse : Parse) (st : Statement) (n : ℕ) (tokens : List Token) (ou
   clauses : next.clauses ≡ parse.clauses + cond (is_clause st) 1 0
   cubes : next.cubes ≡ parse.cubes + cond (not (is_clause st)) 1 0
   literals : next.literals ≡ parse.literals + length (lits_in st)
-
-same_set : (lits : List ℕ) → IsLitSet lits → set_of lits ≡ lits
-same_set lits h = sym (set_is lits lits h (λ x. (λ k. k, λ k. k)))
 
 tagged-append : (n : ℕ) (xs ys : List (List ℕ)) → tagged n (xs ++ ys) ≡ tagged n xs ++ tagged n ys
 tagged-append n [] ys = refl
@@ -356,18 +353,18 @@ cube_goes_on : (n : ℕ) (parse : Parse) → parse.opened ≡ open_as.Cube → b
 cube_goes_on n parse e = ap (λ o. begun_at o parse n) e
 
 done_by : (st : Statement) (o : Open) (n : ℕ) (parse first next : Parse) (tokens from : List Token) (out : List Numbered) (more lits : List ℕ) → Holds next (tokens ++ tagged n (map number_text more)) out → Went first next more → first.opened ≡ o → begun next n ≡ goes_on next →
-    next.lits ≡ lits → (tokens ++ tagged n (map number_text more)) ++ tagged n (codes "0" ∷ []) ≡ from ++ tagged n (statement_words st) → statement_as o (set_of lits) ≡ st → first.start ≡ n →
+    next.lits ≡ lits → (tokens ++ tagged n (map number_text more)) ++ tagged n (codes "0" ∷ []) ≡ from ++ tagged n (statement_words st) → statement_as o (in_order lits) ≡ st → first.start ≡ n →
     next.clauses ≡ parse.clauses + cond (is_clause st) 1 0 → next.cubes ≡ parse.cubes + cond (not (is_clause st)) 1 0 → next.literals ≡ parse.literals + length (lits_in st) → Done parse st n from out
 done_by st o n parse first next tokens from out more lits h went open_is begins lits_are tokens_are st_is line clauses cubes literals =
     let closed = closes n next next (tokens ++ tagged n (map number_text more)) out h begins in
-    let given : record { line = next.start; statement = statement_as next.opened (set_of next.lits) } ≡ record { line = n; statement = st } =
-    ap (λ l. let k : Numbered = record { line = l; statement = statement_as next.opened (set_of next.lits) } in k) (went.line ∙ line)
-    ∙ ap (λ (q : Open). let k : Numbered = record { line = n; statement = statement_as q (set_of next.lits) } in k) (went.opened ∙ open_is)
-    ∙ ap (λ (l : List ℕ). let k : Numbered = record { line = n; statement = statement_as o (set_of l) } in k) lits_are
+    let given : record { line = next.start; statement = statement_as next.opened (in_order next.lits) } ≡ record { line = n; statement = st } =
+    ap (λ l. let k : Numbered = record { line = l; statement = statement_as next.opened (in_order next.lits) } in k) (went.line ∙ line)
+    ∙ ap (λ (q : Open). let k : Numbered = record { line = n; statement = statement_as q (in_order next.lits) } in k) (went.opened ∙ open_is)
+    ∙ ap (λ (l : List ℕ). let k : Numbered = record { line = n; statement = statement_as o (in_order l) } in k) lits_are
     ∙ ap (λ (q : Statement). let k : Numbered = record { line = n; statement = q } in k) st_is in record {
       next = record next { opened = open_as.Nothing; lits = [] };
       holds = subst (λ (k : Numbered). Holds (record next { opened = open_as.Nothing; lits = [] }) (from ++ tagged n (statement_words st)) (out ++ k ∷ [])) given
-          (subst (λ (ts : List Token). Holds (record next { opened = open_as.Nothing; lits = [] }) ts (out ++ record { line = next.start; statement = statement_as next.opened (set_of next.lits) } ∷ [])) tokens_are closed);
+          (subst (λ (ts : List Token). Holds (record next { opened = open_as.Nothing; lits = [] }) ts (out ++ record { line = next.start; statement = statement_as next.opened (in_order next.lits) } ∷ [])) tokens_are closed);
       opened = refl;
       clauses = clauses;
       cubes = cubes;
@@ -378,7 +375,7 @@ clause_done : (lits : List ℕ) (n : ℕ) (parse : Parse) (tokens : List Token) 
 clause_done [] n parse tokens out set h e few_clauses few_lits =
     let begin : Parse = record parse { opened = open_as.Clause; start = n; clauses = parse.clauses + 1 } in record {
       next = record begin { opened = open_as.Nothing; lits = [] };
-      holds = subst (λ (l : List ℕ). Holds (record begin { opened = open_as.Nothing; lits = [] }) (tokens ++ tagged n (codes "0" ∷ [])) (out ++ record { line = n; statement = Clause (set_of l) } ∷ [])) (no_lits parse tokens out h e).0
+      holds = subst (λ (l : List ℕ). Holds (record begin { opened = open_as.Nothing; lits = [] }) (tokens ++ tagged n (codes "0" ∷ [])) (out ++ record { line = n; statement = Clause (in_order l) } ∷ [])) (no_lits parse tokens out h e).0
           (closes n parse begin tokens out h (clause_begins n parse e few_clauses));
       opened = refl;
       clauses = refl;
@@ -396,7 +393,7 @@ clause_done (lit ∷ lits) n parse tokens out set h e few_clauses few_lits =
     (append_assoc (tokens ++ tagged n (number_text lit ∷ [])) (tagged n (map number_text lits)) (tagged n (codes "0" ∷ []))
     ∙ append_assoc tokens (tagged n (number_text lit ∷ [])) (tagged n (map number_text lits) ++ tagged n (codes "0" ∷ []))
     ∙ ap (λ (r : List Token). tokens ++ record { line = n; bytes = number_text lit } ∷ r) (sym (tagged-append n (map number_text lits) (codes "0" ∷ []))))
-    (ap Clause (same_set (lit ∷ lits) set)) refl rest.went.clauses (let k = rest.went.cubes in omega arith) (let k = rest.went.literals in omega arith)
+    (ap Clause (in_order-itself (lit ∷ lits) set.ascending)) refl rest.went.clauses (let k = rest.went.cubes in omega arith) (let k = rest.went.literals in omega arith)
 
 cube_done : (lits : List ℕ) (n : ℕ) (parse : Parse) (tokens : List Token) (out : List Numbered) → IsLitSet lits → Holds parse tokens out → parse.opened ≡ open_as.Nothing → parse.cubes < 1048576 → parse.literals + length lits ≤ 33554432 → Done parse (Cube lits) n tokens out
 cube_done lits n parse tokens out set h e few_cubes few_lits =
@@ -411,7 +408,7 @@ cube_done lits n parse tokens out set h e few_cubes few_lits =
     (append_assoc (tokens ++ t ∷ []) (tagged n (map number_text lits)) (tagged n (codes "0" ∷ []))
     ∙ append_assoc tokens (t ∷ []) (tagged n (map number_text lits) ++ tagged n (codes "0" ∷ []))
     ∙ ap (λ (r : List Token). tokens ++ t ∷ r) (sym (tagged-append n (map number_text lits) (codes "0" ∷ []))))
-    (ap Cube (same_set lits set)) refl (let k = rest.went.clauses in omega arith) rest.went.cubes rest.went.literals
+    (ap Cube (in_order-itself lits set.ascending)) refl (let k = rest.went.clauses in omega arith) rest.went.cubes rest.went.literals
 
 statement_done : (st : Statement) (n : ℕ) (parse : Parse) (tokens : List Token) (out : List Numbered) → IsLitSet (lits_in st) → Holds parse tokens out → parse.opened ≡ open_as.Nothing →
     parse.clauses + cond (is_clause st) 1 0 ≤ 16777216 → parse.cubes + cond (not (is_clause st)) 1 0 ≤ 1048576 → parse.literals + length (lits_in st) ≤ 33554432 → Done parse st n tokens out

@@ -4,6 +4,7 @@ use Rattle.std.specs.Prelude.{◌⊎◌, ◌&&◌, ◌==◌, not, nat_le, Option
 use Rattle.std.specs.Option.{option_or}
 use Rattle.std.proofs.lemmas.Bool.{cases_lt}
 use Rattle.std.proofs.lemmas.Bool.Decides.{nat_tests}
+use Rattle.sat_base.specs.Lit.{in_order}
 use Rattle.icnf_text.specs.declared.statements.Statement.TheVariants.{Clause, Cube}
 use Rattle.icnf_text.specs.declared.statements.Numbered.{Numbered}
 use Rattle.icnf_text.specs.declared.faults.Reason.{Reason}
@@ -15,7 +16,7 @@ use Rattle.icnf_text.specs.declared.parser.Open.{Open}
 use Rattle.icnf_text.specs.declared.parser.Open.TheVariants as open_as
 use Rattle.icnf_text.specs.Layout.{Token}
 use Rattle.icnf_text.specs.Number.{is_zero, is_mark, is_literal, code_of, variable_of, is_variable}
-use Rattle.icnf_text.specs.Judgement.{open_of, set_of, lits_of, begins_cube, first_line, statement_of, statements_of, is_clause, count_clauses, count_cubes, count_literals, is_begin, reason_of, fault_on, wrong_after}
+use Rattle.icnf_text.specs.Judgement.{open_of, lits_of, begins_cube, first_line, statement_of, statements_of, is_clause, count_clauses, count_cubes, count_literals, is_begin, reason_of, fault_on, wrong_after}
 use Rattle.icnf_text.specs.Machine.{Parse, Taken, goes_on, stops, mark_at, begun_at, begun, lit_code, pushed_unless, literal_taken, statement_as, closed_unless, zero_taken, token_taken}
 use Rattle.icnf_text.proofs.Tokens.{IsWord, IsNumber}
 use Rattle.icnf_text.proofs.TokenKinds.{IsOther, other_minus, other_p, other_front, other_strange, literal_differs, lit_code-within, lit_code-over, variable_within, variable_over}
@@ -228,7 +229,7 @@ reason-zero tokens true h = rw h refl
 reason-zero tokens false h = rw h refl
 
 statement_by : (o : Open) (n : ℕ) (lits : List ℕ) (line : ℕ) (cube : Bool) (more : List ℕ) → IsSome o → cube ≡ is_cube o → line ≡ n → lits ≡ more →
-    ◌≡◌ {A = Numbered} (record { line = n; statement = statement_as o (set_of lits) }) (record { line = line; statement = cond cube (Cube (set_of more)) (Clause (set_of more)) })
+    ◌≡◌ {A = Numbered} (record { line = n; statement = statement_as o (in_order lits) }) (record { line = line; statement = cond cube (Cube (in_order more)) (Clause (in_order more)) })
 statement_by open_as.Nothing n lits line cube more some c l is = absurd some
 statement_by open_as.Clause n lits line cube more some c l is = rw (c, l, ← is) refl
 statement_by open_as.Cube n lits line cube more some c l is = rw (c, l, ← is) refl
@@ -244,9 +245,9 @@ cube_counts open_as.Clause lits some = refl
 cube_counts open_as.Cube lits some = refl
 
 zero_new : (parse : Parse) (tokens : List Token) (t : Token) (out : List Numbered) → HasBegun parse tokens t out → is_zero t.bytes ≡ true → is_literal t.bytes ≡ false → reason_of tokens t.bytes ≡ None →
-    Holds (record parse { opened = open_as.Nothing; lits = [] }) (tokens ++ t ∷ []) (out ++ record { line = parse.start; statement = statement_as parse.opened (set_of parse.lits) } ∷ [])
+    Holds (record parse { opened = open_as.Nothing; lits = [] }) (tokens ++ t ∷ []) (out ++ record { line = parse.start; statement = statement_as parse.opened (in_order parse.lits) } ∷ [])
 zero_new parse tokens t out h ends no_literal right =
-    let s : Numbered = record { line = parse.start; statement = statement_as parse.opened (set_of parse.lits) } in
+    let s : Numbered = record { line = parse.start; statement = statement_as parse.opened (in_order parse.lits) } in
     let is : s ≡ statement_of (open_of tokens ++ t ∷ []) =
     statement_by parse.opened parse.start parse.lits (first_line (open_of tokens ++ t ∷ [])) (begins_cube (open_of tokens ++ t ∷ [])) (lits_of (open_of tokens ++ t ∷ [])) h.some h.cube h.line
     (h.lits ∙ sym (lits_of-push (open_of tokens) t false no_literal)) in
@@ -254,8 +255,8 @@ zero_new parse tokens t out h ends no_literal right =
     record {
       right = right_more tokens t h.right right;
       opened = (open_of-zero tokens t ends, refl);
-      clauses = h.clauses ∙ sym (ap count_clauses all ∙ count_by-push (λ (n : Numbered). is_clause n.statement) (statements_of tokens) s ∙ ap (λ k. count_clauses (statements_of tokens) + k) (clause_counts parse.opened (set_of parse.lits) h.some)) ∙ sym (plus_zero (count_clauses (statements_of (tokens ++ t ∷ []))));
-      cubes = h.cubes ∙ sym (ap count_cubes all ∙ count_by-push (λ (n : Numbered). not (is_clause n.statement)) (statements_of tokens) s ∙ ap (λ k. count_cubes (statements_of tokens) + k) (cube_counts parse.opened (set_of parse.lits) h.some)) ∙ sym (plus_zero (count_cubes (statements_of (tokens ++ t ∷ []))));
+      clauses = h.clauses ∙ sym (ap count_clauses all ∙ count_by-push (λ (n : Numbered). is_clause n.statement) (statements_of tokens) s ∙ ap (λ k. count_clauses (statements_of tokens) + k) (clause_counts parse.opened (in_order parse.lits) h.some)) ∙ sym (plus_zero (count_clauses (statements_of (tokens ++ t ∷ []))));
+      cubes = h.cubes ∙ sym (ap count_cubes all ∙ count_by-push (λ (n : Numbered). not (is_clause n.statement)) (statements_of tokens) s ∙ ap (λ k. count_cubes (statements_of tokens) + k) (cube_counts parse.opened (in_order parse.lits) h.some)) ∙ sym (plus_zero (count_cubes (statements_of (tokens ++ t ∷ []))));
       literals = h.literals ∙ sym (literals_same tokens t no_literal);
       given = ap (λ (o : List Numbered). o ++ s ∷ []) h.given ∙ sym all;
     }

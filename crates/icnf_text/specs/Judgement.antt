@@ -2,6 +2,8 @@
 use Rattle.std.specs.Prelude.{ℕ, nat_lt, nat_le, ◌==◌, ◌&&◌, ◌||◌, not, Bool, true, false, if◌then◌else◌, Option, Some, None, is_some, List, [], ◌∷◌, ◌++◌, map, filter, length, take, codes, count_by}
 use Rattle.std.specs.Option.{option_or, option_map}
 use Rattle.std.specs.Str.{bytes_eq}
+use Rattle.sat_base.specs.Limits.{most_clauses, most_jobs, most_literals}
+use Rattle.sat_base.specs.Lit.{in_order}
 use Rattle.icnf_text.specs.declared.statements.Statement.{Statement}
 use Rattle.icnf_text.specs.declared.statements.Statement.TheVariants.{Clause, Cube}
 use Rattle.icnf_text.specs.declared.statements.Numbered.{Numbered}
@@ -27,15 +29,6 @@ groups_of tokens = groups_after [] tokens
 abbrev pub open_of : List Token → List Token
 open_of tokens = open_after [] tokens
 
--- a literal put into a set of literals, which is kept in ascending order
-abbrev pub insert_lit : ℕ → List ℕ → List ℕ
-insert_lit lit [] = lit ∷ []
-insert_lit lit (other ∷ lits) = if nat_lt lit other then lit ∷ other ∷ lits else (if lit == other then other ∷ lits else other ∷ insert_lit lit lits)
-
-abbrev pub set_of : List ℕ → List ℕ
-set_of [] = []
-set_of (lit ∷ lits) = insert_lit lit (set_of lits)
-
 -- the codes of the literal tokens among these
 abbrev pub lits_of : List Token → List ℕ
 lits_of tokens = map (λ (token : Token). code_of token.bytes) (filter (λ (token : Token). is_literal token.bytes) tokens)
@@ -52,7 +45,7 @@ first_line (token ∷ tokens) = token.line
 abbrev pub statement_of : List Token → Numbered
 statement_of group = record {
   line = first_line group;
-  statement = if begins_cube group then Cube (set_of (lits_of group)) else Clause (set_of (lits_of group));
+  statement = if begins_cube group then Cube (in_order (lits_of group)) else Clause (in_order (lits_of group));
 }
 
 abbrev pub statements_of : List Token → List Numbered
@@ -79,8 +72,8 @@ is_begin before = length (open_of before) == 0
 abbrev pub is_one_too_many : List Token → List ℕ → Bool
 is_one_too_many before bytes =
     if is_mark bytes
-    then nat_le 1048576 (count_cubes (statements_of before))
-    else (is_begin before && nat_le 16777216 (count_clauses (statements_of before))) || (is_literal bytes && nat_le 33554432 (count_literals before))
+    then nat_le most_jobs (count_cubes (statements_of before))
+    else (is_begin before && nat_le most_clauses (count_clauses (statements_of before))) || (is_literal bytes && nat_le most_literals (count_literals before))
 
 -- what is wrong with a token of the statements, if these right ones stand before it
 abbrev pub reason_of : List Token → List ℕ → Option Reason

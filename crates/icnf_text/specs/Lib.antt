@@ -4,3 +4,4 @@ pub mod Number
 pub mod Judgement
 pub mod Machine
 pub mod Printed
+pub mod Reasons

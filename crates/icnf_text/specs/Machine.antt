@@ -2,6 +2,8 @@
 -- What they say of the text so far is stated without them, in `Judgement`.
 use Rattle.std.specs.Prelude.{◌≡◌, ℕ, ◌+◌, ◌-◌, ◌*◌, nat_lt, nat_le, ◌==◌, ◌&&◌, Bool, true, false, if◌then◌else◌, Option, Some, None, List, [], ◌∷◌, ◌++◌, slice_index, codes, IsTrue}
 use Rattle.std.specs.Char.{is_ascii_digit}
+use Rattle.sat_base.specs.Limits.{greatest_variable, most_clauses, most_jobs, most_literals}
+use Rattle.sat_base.specs.Lit.{in_order}
 use Rattle.icnf_text.specs.declared.statements.Statement.{Statement}
 use Rattle.icnf_text.specs.declared.statements.Statement.TheVariants as statement
 use Rattle.icnf_text.specs.declared.statements.Numbered.{Numbered}
@@ -17,7 +19,7 @@ use Rattle.icnf_text.specs.declared.parser.Open.TheVariants as open_as
 use Rattle.icnf_text.specs.declared.places.Place.{Place}
 use Rattle.icnf_text.specs.declared.places.Place.TheVariants as place
 use Rattle.icnf_text.specs.Layout.{is_blank}
-use Rattle.icnf_text.specs.Judgement.{set_of, fault_on}
+use Rattle.icnf_text.specs.Judgement.{fault_on}
 
 -- a word of one byte
 abbrev pub first_byte : ℕ → Word
@@ -37,7 +39,7 @@ first_digit byte = if is_ascii_digit byte && nat_lt 48 byte then word.Number tru
 abbrev pub next_digit : Bool → ℕ → ℕ → Word
 next_digit negative variable byte =
     if is_ascii_digit byte
-    then word.Number negative (if nat_lt 8388607 variable then variable else variable * 10 + (byte - 48))
+    then word.Number negative (if nat_lt greatest_variable variable then variable else variable * 10 + (byte - 48))
     else word.Strange
 
 abbrev pub next_letter : ℕ → ℕ → Word
@@ -55,7 +57,7 @@ extended word.Strange byte = word.Strange
 
 abbrev pub lit_code : Bool → ℕ → Option ℕ
 lit_code negative variable =
-    if nat_lt 0 variable && nat_le variable 8388607
+    if nat_lt 0 variable && nat_le variable greatest_variable
     then Some (2 * variable + (if negative then 1 else 0))
     else None
 
@@ -84,7 +86,7 @@ stops parse why = record { parse = parse; reason = Some why; given = [] }
 -- `a`
 abbrev pub mark_at : Open → Parse → ℕ → Taken
 mark_at open_as.Nothing parse line =
-    if nat_le 1048576 parse.cubes
+    if nat_le most_jobs parse.cubes
     then stops parse reason.TooMany
     else goes_on (record parse { opened = open_as.Cube; start = line; cubes = parse.cubes + 1 })
 mark_at open_as.Clause parse line = stops parse reason.Token
@@ -93,7 +95,7 @@ mark_at open_as.Cube parse line = stops parse reason.Token
 -- a clause begins where no statement is open
 abbrev pub begun_at : Open → Parse → ℕ → Taken
 begun_at open_as.Nothing parse line =
-    if nat_le 16777216 parse.clauses
+    if nat_le most_clauses parse.clauses
     then stops parse reason.TooMany
     else goes_on (record parse { opened = open_as.Clause; start = line; clauses = parse.clauses + 1 })
 begun_at open_as.Clause parse line = goes_on parse
@@ -106,7 +108,7 @@ begun parse line = begun_at parse.opened parse line
 abbrev pub pushed_unless : Option Reason → Parse → ℕ → Taken
 pushed_unless (Some why) parse code = stops parse why
 pushed_unless None parse code =
-    if nat_le 33554432 parse.literals
+    if nat_le most_literals parse.literals
     then stops parse reason.TooMany
     else goes_on (record parse { lits = parse.lits ++ code ∷ []; literals = parse.literals + 1 })
 
@@ -125,7 +127,7 @@ closed_unless (Some why) parse = stops parse why
 closed_unless None parse = record {
   parse = record parse { opened = open_as.Nothing; lits = [] };
   reason = None;
-  given = record { line = parse.start; statement = statement_as parse.opened (set_of parse.lits) } ∷ [];
+  given = record { line = parse.start; statement = statement_as parse.opened (in_order parse.lits) } ∷ [];
 }
 
 abbrev pub zero_taken : Parse → ℕ → Taken

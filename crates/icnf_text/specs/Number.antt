@@ -2,6 +2,7 @@
 use Rattle.std.specs.Prelude.{ℕ, ◌+◌, ◌*◌, nat_lt, nat_le, ◌&&◌, Bool, if◌then◌else◌, List, take, drop, codes, slice_index}
 use Rattle.std.specs.Str.{all_ascii_digits, bytes_eq}
 use Rattle.std.specs.Str.Parse.{digits_value}
+use Rattle.sat_base.specs.Limits.{greatest_variable}
 
 -- the token that ends a statement
 abbrev pub is_zero : List ℕ → Bool
@@ -30,6 +31,6 @@ variable_of bytes = digits_value 10 (digits_of bytes)
 abbrev pub code_of : List ℕ → ℕ
 code_of bytes = 2 * variable_of bytes + (if is_minus bytes then 1 else 0)
 
--- the greatest variable
+-- a literal's variable is at most the greatest one
 abbrev pub is_variable : ℕ → Bool
-is_variable variable = nat_le variable 8388607
+is_variable variable = nat_le variable greatest_variable

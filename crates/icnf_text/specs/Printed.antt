@@ -1,6 +1,7 @@
 -- The text of statements, one on each line.
 use Rattle.std.specs.Prelude.{ℕ, ◌≤◌, if◌then◌else◌, not, List, [], ◌++◌, length, codes, count_by, sum_by, decimal}
 use Rattle.std.specs.List.{flat_map}
+use Rattle.sat_base.specs.Limits.{most_clauses, most_jobs, most_literals}
 use Rattle.sat_base.specs.Lit.{variable, is_negative}
 use Rattle.icnf_text.specs.declared.statements.Statement.{Statement}
 use Rattle.icnf_text.specs.declared.statements.Statement.TheVariants.{Clause, Cube}
@@ -27,6 +28,6 @@ lits_in (Cube lits) = lits
 -- as many as a text may have
 pub record IsWithin (list : List Statement) : Type 0 where
   pub bytes : length (printed list) ≤ 4294967296
-  pub clauses : count_by is_clause list ≤ 16777216
-  pub cubes : count_by (λ statement. not (is_clause statement)) list ≤ 1048576
-  pub literals : sum_by (λ statement. length (lits_in statement)) list ≤ 33554432
+  pub clauses : count_by is_clause list ≤ most_clauses
+  pub cubes : count_by (λ statement. not (is_clause statement)) list ≤ most_jobs
+  pub literals : sum_by (λ statement. length (lits_in statement)) list ≤ most_literals

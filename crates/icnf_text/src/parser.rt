@@ -7,14 +7,9 @@ use crate::sets::{clause_of, cube_of};
 use crate::words::{Word, lit_of};
 use crate::{Numbered, Reason, Statement};
 use sat_base::Lit;
+use sat_base::limits::{MOST_CLAUSES, MOST_JOBS, MOST_LITERALS};
 use std::alloc::{AllocError, Global};
 use std::marker::Model;
-
-const MOST_CLAUSES: u32 = 16_777_216;
-
-const MOST_CUBES: u32 = 1_048_576;
-
-const MOST_LITERALS: u32 = 33_554_432;
 
 /// How much of the header has come.
 #[derive(Clone, Copy, Debug)]
@@ -89,7 +84,7 @@ impl Parser {
     {
         match self.opened {
             Open::Nothing => {
-                if self.cubes >= MOST_CUBES {
+                if self.cubes >= MOST_JOBS {
                     return Some(Reason::TooMany);
                 }
                 self.cubes += 1;

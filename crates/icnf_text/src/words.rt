@@ -4,8 +4,7 @@ ghost use Rattle.std.specs.Prelude.{◌≡◌};
 ghost use Rattle.icnf_text.specs.Machine.{extended, first_byte, first_digit, lit_code, next_digit, next_letter};
 
 use sat_base::Lit;
-
-pub(crate) const GREATEST_VARIABLE: u32 = 8_388_607;
+use sat_base::limits::GREATEST_VARIABLE;
 
 /// The bytes of a token so far.
 #[derive(Clone, Copy, Debug)]

@@ -4,6 +4,7 @@ use Rattle.std.specs.Option.{option_map}
 use Rattle.std.specs.List.{slice_split}
 use Rattle.std.specs.Str.{all_ascii_digits, bytes_eq}
 use Rattle.std.specs.Str.Parse.{digits_value}
+use Rattle.sat_base.specs.Limits.{greatest_variable}
 use Rattle.sat_base.specs.Lit.{is_negative, variable}
 
 -- the tokens of a line: one space stands between two of them
@@ -27,7 +28,8 @@ number_of digits =
 
 -- the variable that digits write, where it is at most the greatest variable
 unfoldable pub variable_of : List ℕ → Option ℕ
-variable_of digits = option_and_then (λ number. if nat_le number 8388607 then Some number else None) (number_of digits)
+variable_of digits = option_and_then
+    (λ number. if nat_le number greatest_variable then Some number else None) (number_of digits)
 
 -- the code of the literal that a variable, or `-` and a variable, writes
 unfoldable pub lit_of : List ℕ → Option ℕ

@@ -12,6 +12,6 @@ mod printing;
 mod tests;
 
 pub use cuts::cut_at;
-pub use literals::{is_strictly_ascending, lits_before_zero, lits_then_zero};
+pub use literals::{lits_before_zero, lits_then_zero};
 pub use numbers::{is_decimal, read_lit, read_number};
 pub use printing::{print_lit, print_lits, print_number};

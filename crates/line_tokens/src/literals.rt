@@ -2,7 +2,6 @@
 
 ghost use Rattle.std.specs.Prelude.{◌≡◌, IfOk};
 ghost use Rattle.std.specs.Option.{option_map};
-ghost use Rattle.sat_base.specs.Lit.{is_ascending};
 ghost use Rattle.line_tokens.specs.Token.{all_then_zero, lit_of, tokens_of, until_zero, Front};
 
 use crate::{cut_at, read_lit};
@@ -49,18 +48,4 @@ pub fn lits_then_zero(alloc: Global, tokens: &[u8]) -> Result<Option<Vec<Lit>>, 
         return Ok(None);
     }
     Ok(Some(lits))
-}
-
-/// Whether each literal is greater than the one before it.
-pub fn is_strictly_ascending(lits: &[Lit]) -> bool
-    ensures { result ≡ is_ascending lits.now }
-{
-    let mut bound = 0;
-    for lit in lits {
-        if lit.code() <= bound {
-            return false;
-        }
-        bound = lit.code();
-    }
-    true
 }

@@ -6,12 +6,11 @@ ghost use Rattle.std.specs.List.{list_all};
 ghost use Rattle.line_tokens.specs.Token.{token_is_decimal, number_of, variable_of, lit_of};
 
 use sat_base::Lit;
+use sat_base::limits::GREATEST_VARIABLE;
 
 const LEAST: u128 = 1;
 
 const GREATEST: u128 = 18_446_744_073_709_551_615;
-
-const GREATEST_VARIABLE: u64 = 8_388_607;
 
 /// The number that decimal digits write: no leading zero, from 1 to 18446744073709551615. However many
 /// digits there are, their number is given up once it is too large.
@@ -66,7 +65,7 @@ fn read_variable(digits: &[u8]) -> Option<u32>
     ensures range { IfSome result (λ variable. (0 < variable) × (variable ≤ 8388607)) }
 {
     let number = read_number(digits)?;
-    if number > GREATEST_VARIABLE {
+    if number > GREATEST_VARIABLE as u64 {
         return None;
     }
     Some(number as u32)

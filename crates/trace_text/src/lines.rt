@@ -7,8 +7,8 @@ ghost use Rattle.sat_base.specs.Lit.{is_ascending};
 ghost use Rattle.line_tokens.specs.Token.{all_then_zero, number_of, tokens_of};
 ghost use Rattle.trace_text.specs.Line.{fields_of, line_of, Line};
 
-use line_tokens::{cut_at, is_strictly_ascending, lits_before_zero, read_number};
-use sat_base::Lit;
+use line_tokens::{cut_at, lits_before_zero, read_number};
+use sat_base::{Lit, is_strictly_ascending};
 use std::alloc::{AllocError, Global};
 
 /// What a line says.

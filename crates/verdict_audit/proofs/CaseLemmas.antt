@@ -3,6 +3,7 @@ use Rattle.std.proofs.Common.{◌≡◌, ◌∙◌, ℕ, ◌+◌, ◌<◌, ◌�
 use Rattle.std.specs.Prelude.{max, Option, true, false}
 use Rattle.std.proofs.lemmas.List.{length-append, length-map, map-append}
 use Rattle.sat_base.specs.Lit.{greatest_of, greatest_of_all, variables}
+use Rattle.sat_base.proofs.Greatest.{greatest_all_push}
 use Rattle.icnf_text.specs.declared.faults.Fault.{Fault}
 use Rattle.icnf_text.specs.declared.statements.Numbered.{Numbered}
 use Rattle.icnf_text.specs.Judgement.{statements, wrong}
@@ -34,10 +35,6 @@ take_before [] x (suc n) within = absurd (omega arith)
 take_before (y ∷ xs) x zero within = refl
 take_before (y ∷ xs) x (suc n) within = ap (λ ys. y ∷ ys) (take_before xs x n (omega arith))
 
-greatest_more : (clauses : List (List ℕ)) (clause : List ℕ) → greatest_of_all (clauses ++ clause ∷ []) ≡ max (greatest_of_all clauses) (greatest_of clause)
-greatest_more [] clause = omega arith
-greatest_more (first ∷ clauses) clause = let rest = greatest_more clauses clause in omega (arith, rest)
-
 pub taken_clause : (clauses : List (List ℕ)) (tags : List ℕ) (jobs : List Job) (greatest most : ℕ) (clause : List ℕ) → IsTaken clauses tags jobs greatest → length clauses < 16777216 → most ≡ max greatest (greatest_of clause)
     → IsTaken (clauses ++ clause ∷ []) (tags ++ 1 ∷ []) jobs most
 taken_clause clauses tags jobs greatest most clause taken room is = record {
@@ -46,7 +43,7 @@ taken_clause clauses tags jobs greatest most clause taken room is = record {
     few = let longer : length (clauses ++ clause ∷ []) ≡ length clauses + 1 = length-append clauses (clause ∷ []) in omega (arith, longer);
     each = λ k d within. still (taken.kept.each k d within);
   };
-  most = let whole = greatest_more clauses clause in let before = taken.most in omega (arith, whole, before, is);
+  most = let whole = greatest_all_push clauses clause in let before = taken.most in omega (arith, whole, before, is);
 }
   where
     still : {job : Job} → IsJobOver clauses job → IsJobOver (clauses ++ clause ∷ []) job

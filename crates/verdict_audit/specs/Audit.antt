@@ -4,6 +4,8 @@ use Rattle.std.specs.Str.{bytes_eq}
 use Rattle.sat_base.specs.Lit.{opposite}
 use Rattle.sat_base.specs.Truth.{all_true, cube_true}
 use Rattle.line_tokens.specs.Token.{lines_of, token_is_decimal, tokens_of}
+use Rattle.icnf_text.specs.Reasons.{reason_text}
+use Rattle.icnf_text.specs.declared.faults.Reason.TheVariants as why
 use Rattle.trace_core.specs.Known.{Known, known}
 use Rattle.trace_core.specs.Trace.{IsOkStep, known_of}
 use Rattle.trace_core.specs.declared.derivation.Step.{Step}
@@ -49,8 +51,14 @@ begun tally status.Unknown = record { tally = with_unproved tally; place = place
 begun tally status.Cancelled = record { tally = with_unproved tally; place = place.Block }
 begun tally status.NoMemory = record { tally = with_unproved tally; place = place.Block }
 
+-- the word of one of the reasons
 abbrev pub is_reason : List ℕ → Bool
-is_reason word = bytes_eq word (codes "header") || (bytes_eq word (codes "token") || (bytes_eq word (codes "variable") || (bytes_eq word (codes "unfinished") || (bytes_eq word (codes "too-many") || bytes_eq word (codes "too-long")))))
+is_reason word = bytes_eq word (reason_text why.Header)
+    || (bytes_eq word (reason_text why.Token)
+    || (bytes_eq word (reason_text why.Variable)
+    || (bytes_eq word (reason_text why.Unfinished)
+    || (bytes_eq word (reason_text why.TooMany)
+    || bytes_eq word (reason_text why.TooLong)))))
 
 -- `end` and a number, or `refused`, a number and a reason
 unfoldable pub is_end_of_tokens : List (List ℕ) → Bool

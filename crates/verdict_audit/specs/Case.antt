@@ -2,9 +2,8 @@
 use Rattle.std.specs.Prelude.{ℕ, ◌-◌, Option, Some, None, List, [], ◌∷◌, ◌++◌, map, length, take, codes, decimal, slice_index_or, true}
 use Rattle.sat_base.specs.Lit.{variables}
 use Rattle.icnf_text.specs.Judgement.{statements, wrong}
+use Rattle.icnf_text.specs.Reasons.{reason_text}
 use Rattle.icnf_text.specs.declared.faults.Fault.{Fault}
-use Rattle.icnf_text.specs.declared.faults.Reason.{Reason}
-use Rattle.icnf_text.specs.declared.faults.Reason.TheVariants as reason
 use Rattle.icnf_text.specs.declared.statements.Numbered.{Numbered}
 use Rattle.icnf_text.specs.declared.statements.Statement.{Statement}
 use Rattle.icnf_text.specs.declared.statements.Statement.TheVariants.{Clause, Cube}
@@ -29,19 +28,10 @@ abbrev pub queries_after : ℕ → List Query → Statement → List Query
 queries_after inputs queries (Clause clause) = queries
 queries_after inputs queries (Cube cube) = queries ++ record { inputs = inputs; cube = cube } ∷ []
 
--- the word of a reason
-abbrev pub reason_word : Reason → List ℕ
-reason_word reason.Header = codes "header"
-reason_word reason.Token = codes "token"
-reason_word reason.Variable = codes "variable"
-reason_word reason.Unfinished = codes "unfinished"
-reason_word reason.TooMany = codes "too-many"
-reason_word reason.TooLong = codes "too-long"
-
 -- the last line, without its line feed, of the output that has the blocks of so many jobs, and all of them
 abbrev pub last_line_of : Option Fault → ℕ → List ℕ
 last_line_of None jobs = codes "end " ++ decimal jobs
-last_line_of (Some fault) jobs = codes "refused " ++ decimal fault.line ++ codes " " ++ reason_word fault.reason
+last_line_of (Some fault) jobs = codes "refused " ++ decimal fault.line ++ codes " " ++ reason_text fault.reason
 
 -- the clauses and jobs of statements behind these
 abbrev pub case_after : Option Fault → List (List ℕ) → List Query → List Numbered → Case

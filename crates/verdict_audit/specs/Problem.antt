@@ -1,5 +1,6 @@
 -- What an audit keeps of a text.
 use Rattle.std.specs.Prelude.{ℕ, ◌≡◌, ◌≤◌, List, map, length, take, All}
+use Rattle.sat_base.specs.Limits.{most_clauses}
 use Rattle.sat_base.specs.Lit.{greatest_of_all, variables}
 use Rattle.verdict_audit.specs.Case.{Query}
 use Rattle.verdict_audit.specs.declared.taking.Job.{Job}
@@ -14,7 +15,7 @@ pub record IsJobOver (clauses : List (List ℕ)) (job : Job) : Type 0 where
 
 pub record IsKept (clauses : List (List ℕ)) (tags : List ℕ) (jobs : List Job) : Type 0 where
   pub ones : tags ≡ map (λ (clause : List ℕ). 1) clauses
-  pub few : length clauses ≤ 16777216
+  pub few : length clauses ≤ most_clauses
   pub each : All (IsJobOver clauses) jobs
 
 pub record IsTaken (clauses : List (List ℕ)) (tags : List ℕ) (jobs : List Job) (greatest : ℕ) : Type 0 where

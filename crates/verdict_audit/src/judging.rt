@@ -18,6 +18,7 @@ use crate::Flaw;
 use crate::findings::Wrong;
 use crate::places::{Place, Proof, Tally};
 use crate::problem::Problem;
+use icnf_text::Reason;
 use line_tokens::{cut_at, is_decimal};
 use sat_base::Lit;
 use std::alloc::Global;
@@ -88,12 +89,12 @@ fn is_next(jobs: u64, begun: u64, line: &JobLine) -> bool
 fn is_reason(word: &[u8]) -> bool
     ensures { result ≡ is_reason word.now }
 {
-    word == b"header".as_slice()
-        || word == b"token".as_slice()
-        || word == b"variable".as_slice()
-        || word == b"unfinished".as_slice()
-        || word == b"too-many".as_slice()
-        || word == b"too-long".as_slice()
+    word == Reason::Header.text()
+        || word == Reason::Token.text()
+        || word == Reason::Variable.text()
+        || word == Reason::Unfinished.text()
+        || word == Reason::TooMany.text()
+        || word == Reason::TooLong.text()
 }
 
 // Whether a line tells that the run stopped.

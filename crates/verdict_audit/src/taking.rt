@@ -1,19 +1,16 @@
 //! The clauses and jobs of statements, one statement after the other.
 
 ghost use Rattle.std.specs.Prelude.{◌≡◌, ◌++◌, [], ◌∷◌, ◌≤◌, ◌<◌, ℕ, List, Option, true, map, length, max, IfOk, OnOk};
-ghost use Rattle.sat_base.specs.Lit.{greatest_of, variables};
 ghost use Rattle.icnf_text.specs.declared.faults.Fault.{Fault};
 ghost use Rattle.icnf_text.specs.declared.statements.Numbered.{Numbered};
-ghost use Rattle.verdict_audit.specs.Case.{Case, case_after, case_of, clauses_after, last_line_of, queries_after, reason_word};
+ghost use Rattle.verdict_audit.specs.Case.{Case, case_after, case_of, clauses_after, last_line_of, queries_after};
 ghost use Rattle.verdict_audit.specs.Problem.{IsTaken, query_in};
 
-use icnf_text::{Fault, Numbered, Reason, Statement};
+use icnf_text::{Fault, Numbered, Statement};
 use line_tokens::print_number;
-use sat_base::{Clause, Cube, Lit};
+use sat_base::limits::MOST_CLAUSES;
+use sat_base::{Clause, Cube, greatest_variable};
 use std::alloc::{AllocError, Global};
-
-/// The greatest number of clauses of a text.
-const MOST_CLAUSES: usize = 16_777_216;
 
 /// A job: how many of the clauses stand before its cube, its greatest variable, and the cube.
 #[derive(Debug, Drop)]
@@ -32,17 +29,6 @@ pub(crate) struct Taken {
     pub(crate) greatest: u32,
 }
 
-// The greatest variable, 0 if there is none.
-fn greatest_variable(lits: &[Lit]) -> u32
-    ensures { result ≡ greatest_of lits.now }
-{
-    let mut greatest = 0;
-    for lit in lits {
-        greatest = greatest.max(lit.var());
-    }
-    greatest
-}
-
 // Takes a clause. A text has no more clauses than there is room for, so that the refusal for more never comes.
 fn take_clause(taken: &mut Taken, clause: Clause) -> Result<(), AllocError>
     requires { IsTaken taken.old.clauses.items taken.old.tags.items taken.old.jobs.items taken.old.greatest }
@@ -50,7 +36,7 @@ fn take_clause(taken: &mut Taken, clause: Clause) -> Result<(), AllocError>
     ensures jobs { OnOk result (taken.new.jobs.items ≡ taken.old.jobs.items) }
     ensures kept { OnOk result (IsTaken taken.new.clauses.items taken.new.tags.items taken.new.jobs.items taken.new.greatest) }
 {
-    if taken.clauses.len() >= MOST_CLAUSES {
+    if taken.clauses.len() >= MOST_CLAUSES as usize {
         return Err(AllocError);
     }
     taken.greatest = taken.greatest.max(greatest_variable(clause.lits()));
@@ -100,20 +86,6 @@ pub(crate) fn take_all(taken: &mut Taken, statements: Vec<Numbered>) -> Result<(
     Ok(())
 }
 
-// The word of a reason.
-fn word_of(reason: Reason) -> &'static [u8]
-    ensures { result.now ≡ reason_word reason }
-{
-    match reason {
-        Reason::Header => b"header",
-        Reason::Token => b"token",
-        Reason::Variable => b"variable",
-        Reason::Unfinished => b"unfinished",
-        Reason::TooMany => b"too-many",
-        Reason::TooLong => b"too-long",
-    }
-}
-
 // The last line of a whole output for so many jobs, without its line feed.
 pub(crate) fn last_line(
     alloc: Global,
@@ -132,7 +104,7 @@ pub(crate) fn last_line(
             line.extend_from_slice(b"refused ")?;
             print_number(&mut line, fault.line)?;
             line.extend_from_slice(b" ")?;
-            line.extend_from_slice(word_of(fault.reason))?;
+            line.extend_from_slice(fault.reason.text())?;
         }
     }
     Ok(line)

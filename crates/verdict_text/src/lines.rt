@@ -6,8 +6,8 @@ ghost use Rattle.sat_base.specs.Lit.{is_negative};
 ghost use Rattle.line_tokens.specs.Token.{tokens_of};
 ghost use Rattle.verdict_text.specs.Line.{are_variables_from, is_trace_line_of, job_line_of, lits_of_tokens, model_line_of, part_line_of, status_of};
 
-use line_tokens::{cut_at, is_decimal, is_strictly_ascending, lits_then_zero, read_number};
-use sat_base::{Assign, Cube, Lit};
+use line_tokens::{cut_at, is_decimal, lits_then_zero, read_number};
+use sat_base::{Assign, Cube, Lit, is_strictly_ascending};
 use std::alloc::{AllocError, Global};
 
 /// What the first line of a block says of its job.

@@ -1,6 +1,6 @@
 use Rattle.std.proofs.Common.{◌∙◌, ℕ, List, subst, sym}
 use Rattle.std.specs.Prelude.{Contains}
-use Rattle.icnf_text.proofs.SortedSets.{set_is}
+use Rattle.sat_base.proofs.InOrder.{set_is}
 use Rattle.icnf_text.proofs.sets.cube_of.Goals as goal
 
 pub returns-then-is_strictly_ascending : goal.returns-then-is_strictly_ascending
