@@ -23,14 +23,12 @@ PLANNING = "planning"
 
 KINDS = [
     # seed, implications, stretches of sixteen clauses and four cubes
-    Kind(CHAINS, "chains", chains_and_stretches, [(1, 1000, 30), (1, 10000, 30), (1, 40000, 30)]),
-    Kind(CHAINS, "stretches", chains_and_stretches,
-         [(2, 1000, 60), (2, 3000, 120), (2, 3000, 480)]),
-    Kind(CHECKING, "counter", counter, [(5,), (6,), (7,)]),
+    Kind(CHAINS, "chains", chains_and_stretches, [(1, 1000, 30), (1, 10000, 30), (1, 80000, 30)]),
+    Kind(CHECKING, "counter", counter, [(5,), (7,), (8,)]),
     Kind(CHECKING, "fifo", fifo, [(2, 4, 8), (4, 2, 10), (4, 4, 12)]),
     Kind(CHECKING, "arbiter", arbiter, [(6, 20), (10, 24), (14, 30)]),
-    Kind(CHECKING, "shift register", shift_register, [(9, 30), (10, 60), (10, 140)]),
-    Kind(CHECKING, "adders", adders, [(12,), (48,), (192,)]),
+    Kind(CHECKING, "shift register", shift_register, [(9, 30), (10, 60), (10, 110)]),
+    Kind(CHECKING, "adders", adders, [(12,), (96,), (256,)]),
     Kind(CHECKING, "multipliers", multipliers, [(5,), (6,), (7,)]),
     # seed, variables, ratio; of each pair of seeds one gives a text with a model
     Kind(RANDOM, "with a model", random_ternary, [(1, 110, 4.26), (1, 200, 4.26), (3, 250, 4.26)]),
