@@ -57,4 +57,5 @@ def main():
         print(f"{count:>18} {share:>6}%  {name}")
 
 
-main()
+if __name__ == "__main__":
+    main()

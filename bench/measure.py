@@ -58,10 +58,12 @@ def answers_alone(verdicts):
 
 
 def runs_of_text(runner, programs, text, count):
-    """The runs of each program, one in turn for each repetition."""
+    """The runs of each program, one in turn for each repetition, Tarmo's last: how long the peers
+    took says which of them checks parts, and what they answered who can read the text.
+    """
     found, known = {}, ""
     for _ in range(count):
-        for program in programs:
+        for program in [*programs[1:], programs[0]]:
             before = found.get(program.name, [])
             if before and (before[-1].seconds > LONG or not before[-1].ended):
                 continue
@@ -99,7 +101,8 @@ def measure_text(runner, programs, kind, size, count):
         kind.write(text, *kind.sizes[size])
     runner.forget()
     found = runs_of_text(runner, programs, text, count)
-    results = {name: tables.combined(kind, size, text, name, runs) for name, runs in found.items()}
+    results = {program.name: tables.combined(kind, size, text, program.name, found[program.name])
+               for program in programs if program.name in found}
     results["tarmo"].counts.update(runner.tarmo_counts())
     known = max((run.verdicts for runs in found.values() for run in runs), key=len)
     title = f"{kind.family}, {kind.name}, {SIZES[size]}"
@@ -165,4 +168,5 @@ def written(asked, told, caption, report):
     return names
 
 
-main()
+if __name__ == "__main__":
+    main()

@@ -6,7 +6,7 @@ from collections import namedtuple
 from programs import BUILT, COUNTS, told
 
 MEMORY = 4  # GiB of addresses that a run may take, so that no run harms the machine
-PATIENCE = 6  # a peer that checks parts has so many times the limit of a run
+PATIENCE = 3  # a peer that checks parts has so many times the limit of a run
 
 # seconds: the wall time; the limit where not all jobs were answered in it, or in the memory.
 # first: the seconds to the first output, None where none came. peak: MiB. ended: whether all jobs
@@ -29,14 +29,16 @@ class Runner:
         self.text = folder / "text.icnf"
         self._folder, self._limit = folder, limit
         self._peers = [peer for peer in peers if peer.blocks]
-        self._judged = {}
+        self.forget()
 
     def forget(self):
-        """Another text comes: what was judged before says nothing of it."""
+        """Another text comes: what was judged and how long it took says nothing of it."""
         self._judged = {}
+        self._pace = {peer.name: 1 for peer in self._peers}  # seconds, a guess before the first run
 
     def run(self, program):
         watched = self._watch(program, self.text, "output", self._limit)
+        self._pace[program.name] = watched.wall
         output = self._folder / "output"
         if program.blocks:
             judged = self._judge_once(program, output)
@@ -54,16 +56,19 @@ class Runner:
                    wrong=wrong, unchecked=judged.unchecked)
 
     def tarmo_counts(self):
-        """What `tarmo_bench` tells of the text, where there is such a program."""
+        """What `tarmo_bench solver` tells of the text, where there is such a program.
+
+        It is asked for lines as `conflicts 12` and `propagations 345`.
+        """
         if not COUNTS.exists():
             return {}
-        with open(self.text) as text:
+        with open(self.text) as file:
             try:
-                done = subprocess.run([COUNTS], stdin=text, capture_output=True, text=True,
-                                      timeout=self._limit)
+                done = subprocess.run([COUNTS, "solver"], stdin=file, capture_output=True,
+                                      text=True, timeout=self._limit)
             except subprocess.TimeoutExpired:
                 return {}
-        return told("tarmo", done.stdout + done.stderr)
+        return told("tarmo", done.stdout)
 
     def _watch(self, program, text, output, limit):
         command = [BUILT / "stopwatch", str(limit), str(MEMORY), self._folder / output,
@@ -95,15 +100,16 @@ class Runner:
         return Judged(verdicts, whole, wrong, unchecked)
 
     def _check_parts(self, program, parts, refuted):
-        """A peer other than the program has to refute each part."""
+        """The fastest peer other than the program has to refute each part."""
         others = [peer for peer in self._peers if peer.name != program.name]
         if not others:
             return "", refuted
-        self._watch(others[0], parts, "checked", PATIENCE * self._limit)
+        peer = min(others, key=lambda other: self._pace[other.name])
+        self._watch(peer, parts, "checked", PATIENCE * self._limit)
         with open(self._folder / "checked") as lines:
             heads = [line.split() for line in lines if line.startswith("j ")]
         if any(head[-1] == "SATISFIABLE" for head in heads):
-            return f"{others[0].name} finds a model of a part that is told to be refuted", 0
+            return f"{peer.name} finds a model of a part that is told to be refuted", 0
         return "", refuted - len(heads)
 
 

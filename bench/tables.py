@@ -64,14 +64,18 @@ def number(value):
     return f"{value:.1f}" if value >= 10 else f"{value:.2f}"
 
 
+# Whether Tarmo and the peer were stopped, so that the ratio is a bound.
+SIGNS = {(False, False): "", (True, False): "> ", (False, True): "< ", (True, True): "? "}
+
+
 def median_ratio(pairs, value):
-    """The median of Tarmo's value by the peer's; > and < where the limit stands for a time."""
+    """The median of Tarmo's value by the peer's, with the sign of a bound."""
     ratios = sorted((value(one) / value(other), one.ended, other.ended) for one, other in pairs)
     if not ratios:
         return ""
     middle = ratios[(len(ratios) - 1) // 2 : len(ratios) // 2 + 1]
-    bounds = {(one, other) for _, one, other in middle} - {(True, True)}
-    sign = {(): "", ((False, True),): "> ", ((True, False),): "< "}.get(tuple(bounds), "? ")
+    stopped = (any(not one for _, one, _ in middle), any(not other for _, _, other in middle))
+    sign = SIGNS[stopped]
     return sign + number(median(ratio for ratio, _, _ in middle))
 
 
