@@ -2,7 +2,8 @@
 
 FILE ?= examples/counter.icnf
 
-.PHONY: run test bench bench-reader bench-checker bench-trace bench-learning bench-board bench-lock
+.PHONY: run test bench profile bench-reader bench-checker bench-trace bench-learning
+.PHONY: bench-board bench-lock
 
 # Proves what is not proved yet, builds the program, and solves FILE.
 run:
@@ -12,9 +13,14 @@ run:
 test:
 	.ci/run
 
-# The built program beside minisat and cadical where they are installed, on generated texts.
+# The built program beside the libraries of minisat, cadical and picosat where they are installed,
+# on generated texts. ARGS=--quick takes the small ones.
 bench:
-	bench/solver.py
+	bench/measure.py $(ARGS)
+
+# The twenty functions of the built program that take most instructions on FILE, by valgrind.
+profile:
+	bench/callgrind.py $(FILE)
 
 # The reader beside cat, a C loop, and the parsers of minisat and cadical where they are installed.
 bench-reader:

@@ -1,6 +1,8 @@
-//! The program `tarmo_audit`: makes the real sources and sink, calls the run and ends with its status.
+//! The program `tarmo_audit`: makes the real sources and sink, calls the run and ends with its
+//! status.
 //!
-//! Everything that the program promises is the contract of `audit_run`. It knows no text and no rule.
+//! Everything that the program promises is the contract of `audit_run`. It knows no text and no
+//! rule.
 #![tactic(auto)]
 
 use audit_run::audit_run;

@@ -1,5 +1,6 @@
 -- A run of the audit: what was read, what was found, and what was written.
-use Rattle.std.specs.Prelude.{◌≡◌, ℕ, ◌<◌, ◌≤◌, ◌⊎◌, Bool, true, Option, List, ◌++◌, length, take, codes, decimal}
+use Rattle.std.specs.Prelude.{◌≡◌, ℕ, ◌<◌, ◌≤◌, ◌⊎◌, Bool, true, Option, List, ◌++◌, length, take}
+use Rattle.std.specs.Prelude.{codes, decimal}
 use Rattle.run_io.specs.Bytes.{appended, followed_by}
 use Rattle.run_io.specs.Fault.{last_count}
 use Rattle.verdict_audit.specs.Audit.{Audits}
@@ -21,8 +22,10 @@ flaw_word flaw.Last = codes "last"
 
 -- the line of a finding
 abbrev pub line_text : Finding → List ℕ
-line_text (Good proved unproved) = (codes "good " ++ decimal proved ++ codes " " ++ decimal unproved) ++ codes "\n"
-line_text (Bad line why) = (codes "bad " ++ decimal line ++ codes " " ++ flaw_word why) ++ codes "\n"
+line_text (Good proved unproved) =
+    (codes "good " ++ decimal proved ++ codes " " ++ decimal unproved) ++ codes "\n"
+line_text (Bad line why) =
+    (codes "bad " ++ decimal line ++ codes " " ++ flaw_word why) ++ codes "\n"
 
 abbrev pub status_of : Finding → ℕ
 status_of (Good proved unproved) = 0
@@ -39,7 +42,9 @@ pub record Gave (before after : Option (List ℕ)) (ended : Bool) (bytes : List 
   pub enough : (ended ≡ true) ⊎ (length bytes ≡ 4294967297)
 
 -- what an audit finds in the bytes that two sources gave
-pub record Found (icnf_before icnf_after : Option (List ℕ)) (icnf_ended : Bool) (output_before output_after : Option (List ℕ)) (output_ended : Bool) (finding : Finding) : Type 0 where
+pub record Found (icnf_before icnf_after : Option (List ℕ)) (icnf_ended : Bool)
+    (output_before output_after : Option (List ℕ)) (output_ended : Bool)
+    (finding : Finding) : Type 0 where
   pub text : List ℕ
   pub shown : List ℕ
   pub text_given : Gave icnf_before icnf_after icnf_ended text
@@ -48,11 +53,15 @@ pub record Found (icnf_before icnf_after : Option (List ℕ)) (icnf_ended : Bool
 
 -- one of the two sources failed
 abbrev pub Broke : ReadFault → ℕ → ℕ → ℕ → ℕ → Type 0
-Broke fault.Failed icnf_before icnf_now output_before output_now = (icnf_before < icnf_now) ⊎ (output_before < output_now)
-Broke fault.Memory icnf_before icnf_now output_before output_now = (icnf_now ≡ icnf_before) × (output_now ≡ output_before)
+Broke fault.Failed icnf_before icnf_now output_before output_now =
+    (icnf_before < icnf_now) ⊎ (output_before < output_now)
+Broke fault.Memory icnf_before icnf_now output_before output_now =
+    (icnf_now ≡ icnf_before) × (output_now ≡ output_before)
 
--- The sink took the line of the finding, a front of it where it failed, or nothing where memory ran out.
+-- The sink took the line of the finding, a front of it where it failed, or nothing where memory ran
+-- out.
 abbrev pub Told : Finding → Option (List ℕ) → Option (List ℕ) → ℕ → Type 0
 Told finding before after status =
     ((status ≡ status_of finding) × (after ≡ appended before (line_text finding)))
-    ⊎ (((status ≡ 4) × (size : ℕ) × (after ≡ appended before (take size (line_text finding)))) ⊎ ((status ≡ 6) × (after ≡ before)))
+    ⊎ (((status ≡ 4) × (size : ℕ) × (after ≡ appended before (take size (line_text finding))))
+    ⊎ ((status ≡ 6) × (after ≡ before)))

@@ -1,6 +1,7 @@
 //! Reading a source.
 
-ghost use Rattle.std.specs.Prelude.{◌≡◌, ◌<◌, ◌≤◌, ◌⊎◌, ◌++◌, ℕ, List, true, false, length, IfOk, MatchResult};
+ghost use Rattle.std.specs.Prelude.{◌≡◌, ◌<◌, ◌≤◌, ◌⊎◌, ◌++◌, ℕ, List, true, false, length, IfOk};
+ghost use Rattle.std.specs.Prelude.{MatchResult};
 ghost use Rattle.run_io.specs.Bytes.{followed_by};
 ghost use Rattle.audit_run.specs.Run.{IsReadFault};
 
@@ -58,10 +59,14 @@ fn read_piece<S: Source>(
 ) -> Result<bool, ReadFault>
     requires room { 0 < room }
     requires unread { S.ended source.old ≡ false }
-    ensures bytes { IfOk result (λ _. (bytes : List ℕ) × (text.new.items ≡ text.old.items ++ bytes) × (length bytes ≤ room) × (S.left source.old ≡ followed_by bytes (S.left source.new))) }
+    ensures bytes { IfOk result
+        (λ _. (bytes : List ℕ) × (text.new.items ≡ text.old.items ++ bytes) × (length bytes ≤ room)
+        × (S.left source.old ≡ followed_by bytes (S.left source.new))) }
     ensures ended { IfOk result (λ end. S.ended source.new ≡ end) }
-    ensures cause { MatchResult result (λ _. S.faults source.new ≡ S.faults source.old) (λ fault. IsReadFault fault (S.faults source.old) (S.faults source.new)) }
-    ensures more { IfOk result (λ end. end ≡ false → length text.old.items < length text.new.items) }
+    ensures cause { MatchResult result (λ _. S.faults source.new ≡ S.faults source.old)
+        (λ fault. IsReadFault fault (S.faults source.old) (S.faults source.new)) }
+    ensures more { IfOk result
+        (λ end. end ≡ false → length text.old.items < length text.new.items) }
 {
     let mut piece = buffer(alloc, room)?;
     let count = source.read(&mut piece)?;
@@ -69,17 +74,20 @@ fn read_piece<S: Source>(
     Ok(count == 0)
 }
 
-/// Starts the source with this name and reads it to its end, or up to one byte more than a text or an
-/// output may have.
+/// Starts the source with this name and reads it to its end, or up to one byte more than a text or
+/// an output may have.
 pub(crate) fn read_source<S: Source>(
     alloc: Global,
     name: &str,
     source: &mut S,
 ) -> Result<Vec<u8>, ReadFault>
     requires { S.ended source.old ≡ false }
-    ensures bytes { IfOk result (λ text. S.left source.old ≡ followed_by text.items (S.left source.new)) }
-    ensures whole { IfOk result (λ text. (S.ended source.new ≡ true) ⊎ (length text.items ≡ 4294967297)) }
-    ensures cause { MatchResult result (λ _. S.faults source.new ≡ S.faults source.old) (λ fault. IsReadFault fault (S.faults source.old) (S.faults source.new)) }
+    ensures bytes { IfOk result
+        (λ text. S.left source.old ≡ followed_by text.items (S.left source.new)) }
+    ensures whole { IfOk result
+        (λ text. (S.ended source.new ≡ true) ⊎ (length text.items ≡ 4294967297)) }
+    ensures cause { MatchResult result (λ _. S.faults source.new ≡ S.faults source.old)
+        (λ fault. IsReadFault fault (S.faults source.old) (S.faults source.new)) }
 {
     source.start(Some(name))?;
     let mut text = Vec::new(alloc);

@@ -29,8 +29,13 @@ fn find<S: Source, T: Source>(
     requires output_faults { T.faults output.old < last_count }
     requires icnf_unread { S.ended icnf.old ≡ false }
     requires output_unread { T.ended output.old ≡ false }
-    ensures found { IfOk result (λ finding. Found (S.left icnf.old) (S.left icnf.new) (S.ended icnf.new) (T.left output.old) (T.left output.new) (T.ended output.new) finding) }
-    ensures cause { MatchResult result (λ _. (S.faults icnf.new ≡ S.faults icnf.old) × (T.faults output.new ≡ T.faults output.old)) (λ fault. Broke fault (S.faults icnf.old) (S.faults icnf.new) (T.faults output.old) (T.faults output.new)) }
+    ensures found { IfOk result
+        (λ finding. Found (S.left icnf.old) (S.left icnf.new) (S.ended icnf.new)
+        (T.left output.old) (T.left output.new) (T.ended output.new) finding) }
+    ensures cause { MatchResult result
+        (λ _. (S.faults icnf.new ≡ S.faults icnf.old)
+        × (T.faults output.new ≡ T.faults output.old)) (λ fault. Broke fault (S.faults icnf.old)
+        (S.faults icnf.new) (T.faults output.old) (T.faults output.new)) }
     ensures later_icnf { S.faults icnf.old ≤ S.faults icnf.new }
     ensures later_output { T.faults output.old ≤ T.faults output.new }
 {
@@ -40,13 +45,14 @@ fn find<S: Source, T: Source>(
     Ok(finding)
 }
 
-/// The whole of `tarmo_audit` but for making the real things: audits the output that the second source gives
-/// under the second word, for the iCNF text that the first one gives under the first word, and writes
-/// `good P U` or `bad LINE REASON`.
+/// The whole of `tarmo_audit` but for making the real things: audits the output that the second
+/// source gives under the second word, for the iCNF text that the first one gives under the first
+/// word, and writes `good P U` or `bad LINE REASON`.
 ///
-/// The first status of this order that stands: 5 where there aren't two words, and then nothing is read or
-/// written; 4 where the sink failed; 6 where memory ran out; 3 where a source failed; 1 where the output is
-/// bad; 0 otherwise. A source is read to its end, or up to the first byte behind the greatest length.
+/// The first status of this order that stands: 5 where there aren't two words, and then nothing is
+/// read or written; 4 where the sink failed; 6 where memory ran out; 3 where a source failed; 1
+/// where the output is bad; 0 otherwise. A source is read to its end, or up to the first byte
+/// behind the greatest length.
 pub fn audit_run<S: Source, T: Source, O: Sink>(
     alloc: Global,
     words: &[String],
@@ -61,14 +67,21 @@ pub fn audit_run<S: Source, T: Source, O: Sink>(
     requires output_unread { T.ended output.old ≡ false }
 
     ensures words { (result ≡ 5) ↔ (length words.now ≢ 2) }
-    ensures untouched { length words.now ≢ 2 → (icnf.new ≡ icnf.old) × (output.new ≡ output.old) × (out.new ≡ out.old) }
+    ensures untouched { length words.now ≢ 2
+        → (icnf.new ≡ icnf.old) × (output.new ≡ output.old) × (out.new ≡ out.old) }
     ensures run { length words.now ≡ 2 →
-        ((finding : Finding) × Found (S.left icnf.old) (S.left icnf.new) (S.ended icnf.new) (T.left output.old) (T.left output.new) (T.ended output.new) finding × Told finding (O.taken out.old) (O.taken out.new) result)
+        ((finding : Finding)
+        × Found (S.left icnf.old) (S.left icnf.new) (S.ended icnf.new) (T.left output.old)
+        (T.left output.new) (T.ended output.new) finding
+        × Told finding (O.taken out.old) (O.taken out.new) result)
         ⊎ (((result ≡ 3) ⊎ (result ≡ 6)) × (O.taken out.new ≡ O.taken out.old)) }
 
     ensures sink { (result ≡ 4) ↔ (O.faults out.old < O.faults out.new) }
-    ensures sources { (result ≡ 3) ↔ (((S.faults icnf.old < S.faults icnf.new) ⊎ (T.faults output.old < T.faults output.new)) × (result ≢ 4) × (result ≢ 6)) }
-    ensures counts { (S.faults icnf.old ≤ S.faults icnf.new) × (T.faults output.old ≤ T.faults output.new) × (O.faults out.old ≤ O.faults out.new) }
+    ensures sources { (result ≡ 3)
+        ↔ (((S.faults icnf.old < S.faults icnf.new) ⊎ (T.faults output.old < T.faults output.new))
+        × (result ≢ 4) × (result ≢ 6)) }
+    ensures counts { (S.faults icnf.old ≤ S.faults icnf.new)
+        × (T.faults output.old ≤ T.faults output.new) × (O.faults out.old ≤ O.faults out.new) }
 {
     if words.len() != 2 {
         return WORDS_REFUSED;

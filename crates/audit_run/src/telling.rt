@@ -1,6 +1,7 @@
 //! The line of a finding.
 
-ghost use Rattle.std.specs.Prelude.{◌≡◌, ◌<◌, ◌≤◌, ◌↔◌, codes, decimal, ◌++◌, ℕ, take, IfOk, OnErr, OnOk};
+ghost use Rattle.std.specs.Prelude.{◌≡◌, ◌<◌, ◌≤◌, ◌↔◌, codes, decimal, ◌++◌, ℕ, take, IfOk, OnErr};
+ghost use Rattle.std.specs.Prelude.{OnOk};
 ghost use Rattle.run_io.specs.Bytes.{appended};
 ghost use Rattle.run_io.specs.Fault.{HasCause, last_count};
 ghost use Rattle.audit_run.specs.Run.{Told, line_text, status_of, flaw_word};
@@ -30,7 +31,9 @@ fn word_of(flaw: Flaw) -> &'static [u8]
 
 // Adds `good P U`, without its line feed.
 fn print_good(out: &mut Vec<u8>, proved: u32, unproved: u32) -> Result<(), AllocError>
-    ensures { OnOk result (out.new.items ≡ out.old.items ++ (codes "good " ++ decimal proved ++ codes " " ++ decimal unproved)) }
+    ensures { OnOk result
+        (out.new.items
+        ≡ out.old.items ++ (codes "good " ++ decimal proved ++ codes " " ++ decimal unproved)) }
 {
     out.extend_from_slice(b"good ")?;
     print_number(out, proved as u64)?;
@@ -40,7 +43,9 @@ fn print_good(out: &mut Vec<u8>, proved: u32, unproved: u32) -> Result<(), Alloc
 
 // Adds `bad LINE REASON`, without its line feed.
 fn print_bad(out: &mut Vec<u8>, line: u64, flaw: Flaw) -> Result<(), AllocError>
-    ensures { OnOk result (out.new.items ≡ out.old.items ++ (codes "bad " ++ decimal line ++ codes " " ++ flaw_word flaw)) }
+    ensures { OnOk result
+        (out.new.items
+        ≡ out.old.items ++ (codes "bad " ++ decimal line ++ codes " " ++ flaw_word flaw)) }
 {
     out.extend_from_slice(b"bad ")?;
     print_number(out, line)?;
@@ -73,7 +78,8 @@ fn status_of(finding: Finding) -> u8
 
 fn write_line<O: Sink>(out: &mut O, line: &[u8]) -> Result<(), Failed>
     ensures whole { OnOk result (O.taken out.new ≡ appended (O.taken out.old) line.now) }
-    ensures front { OnErr result ((size : ℕ) × (O.taken out.new ≡ appended (O.taken out.old) (take size line.now))) }
+    ensures front { OnErr result
+        ((size : ℕ) × (O.taken out.new ≡ appended (O.taken out.old) (take size line.now))) }
     ensures cause { HasCause (O.faults out.old) (O.faults out.new) result }
 {
     write_all(out, line)?;

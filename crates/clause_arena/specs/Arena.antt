@@ -1,5 +1,6 @@
 -- Clauses as an arena holds them.
-use Rattle.std.specs.Prelude.{◌≡◌, ℕ, ◌<◌, List, [], map, length, slice_index, slice_index_or, slice_set, swap}
+use Rattle.std.specs.Prelude.{◌≡◌, ℕ, ◌<◌, List, [], map, length, slice_index, slice_index_or}
+use Rattle.std.specs.Prelude.{slice_set, swap}
 use Rattle.sat_base.specs.declared.origins.Ref.{Ref}
 use Rattle.sat_base.specs.declared.origins.Ref.TheVariants.{Own}
 
@@ -23,9 +24,12 @@ lits_of_each clauses = map (λ clause. clause.lits) clauses
 
 -- no literal stands in two places
 pub record HasNoRepeat (lits : List ℕ) : Type 0 where
-  pub each : (i j : ℕ) → i < length lits → j < length lits → slice_index lits i ≡ slice_index lits j → i ≡ j
+  pub each : (i j : ℕ) → i < length lits → j < length lits
+      → slice_index lits i ≡ slice_index lits j → i ≡ j
 
 -- the clauses where exactly these two places of one clause are exchanged
 abbrev pub with_places_swapped : List ArenaClause → ℕ → ℕ → ℕ → List ArenaClause
 with_places_swapped clauses id i j =
-    slice_set clauses id (record (clause_at clauses id) { lits = swap (clause_at clauses id).lits i j })
+    slice_set clauses id (record (clause_at clauses id) {
+      lits = swap (clause_at clauses id).lits i j;
+    })

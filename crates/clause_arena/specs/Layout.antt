@@ -1,5 +1,7 @@
--- How an arena keeps its clauses: one block of literals, the bounds of the clauses in it, and their names.
-use Rattle.std.specs.Prelude.{ℕ, zero, suc, ◌+◌, ◌-◌, ◌<◌, ◌≤◌, List, [], ◌∷◌, ◌++◌, length, slice_index, slice_range}
+-- How an arena keeps its clauses: one block of literals, the bounds of the clauses in it, and their
+-- names.
+use Rattle.std.specs.Prelude.{ℕ, zero, suc, ◌+◌, ◌-◌, ◌<◌, ◌≤◌, List, [], ◌∷◌, ◌++◌, length}
+use Rattle.std.specs.Prelude.{slice_index, slice_range}
 use Rattle.clause_arena.specs.declared.arena.Arena.TheInside.{Inside}
 use Rattle.clause_arena.specs.Arena.{ArenaClause, HasNoRepeat}
 use Rattle.clause_arena.specs.Named.{Named, named_at}
@@ -31,10 +33,12 @@ clauses_of a = laid_clauses a.lits.items a.bounds.items a.names
 -- The bounds ascend within the block; each clause has a name and no literal twice.
 -- What a call that wanted memory left behind the last clause is no part of the arena.
 pub record IsLaidOut (lits bounds : List ℕ) (names : List Named) : Type 0 where
-  pub ascending : (i j : ℕ) → i ≤ j → j < length bounds → slice_index bounds i ≤ slice_index bounds j
+  pub ascending : (i j : ℕ) → i ≤ j → j < length bounds
+      → slice_index bounds i ≤ slice_index bounds j
   pub within : (i : ℕ) → i < length bounds → slice_index bounds i ≤ length lits
   pub named : length bounds ≤ length names + 1
-  pub distinct : (id : ℕ) → id + 1 < length bounds → HasNoRepeat (slice_range lits (slice_index bounds id) (slice_index bounds (id + 1)))
+  pub distinct : (id : ℕ) → id + 1 < length bounds
+      → HasNoRepeat (slice_range lits (slice_index bounds id) (slice_index bounds (id + 1)))
 
 abbrev pub IsArena : Inside → Type 0
 IsArena a = IsLaidOut a.lits.items a.bounds.items a.names

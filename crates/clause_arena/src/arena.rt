@@ -1,6 +1,7 @@
 //! Clauses in one block of memory.
 
-ghost use Rattle.std.specs.Prelude.{◌≡◌, ℕ, ◌<◌, List, [], ◌∷◌, ◌++◌, length, take, All, IfOk, OnOk, OnErr};
+ghost use Rattle.std.specs.Prelude.{◌≡◌, ℕ, ◌<◌, List, [], ◌∷◌, ◌++◌, length, take, All, IfOk};
+ghost use Rattle.std.specs.Prelude.{OnOk, OnErr};
 ghost use Rattle.clause_arena.specs.Arena.{HasNoRepeat, clause_at, with_places_swapped};
 ghost use Rattle.clause_arena.specs.Layout.{begun};
 
@@ -9,10 +10,10 @@ use sat_base::{Clause, Lit, Ref};
 use std::alloc::{AllocError, Global};
 use std::marker::Model;
 
-/// Clauses, numbered from 0. Their literals stand one clause behind another in one block, four bytes each,
-/// and the clause of number `id` is what lies between the bounds `id` and `id + 1`. So a clause takes
-/// sixteen bytes besides its literals: four for a bound, four for its tag, eight for its origin.
-/// Contracts see an arena as the list of its clauses.
+/// Clauses, numbered from 0. Their literals stand one clause behind another in one block, four
+/// bytes each, and the clause of number `id` is what lies between the bounds `id` and `id + 1`. So
+/// a clause takes sixteen bytes besides its literals: four for a bound, four for its tag, eight for
+/// its origin. Contracts see an arena as the list of its clauses.
 #[derive(Debug, Drop)]
 pub struct Arena {
     lits: Vec<Lit>,
@@ -45,11 +46,13 @@ impl Arena {
         }
     }
 
-    /// Adds a clause behind the others, with its literals in ascending order, and answers its number.
-    /// An arena that would have more than 4,294,967,295 literals is answered as want of memory.
+    /// Adds a clause behind the others, with its literals in ascending order, and answers its
+    /// number. An arena that would have more than 4,294,967,295 literals is answered as want of
+    /// memory.
     pub fn add(&mut self, clause: &Clause, tag: u32, origin: Ref) -> Result<usize, AllocError>
         ensures number { IfOk result (λ id. id ≡ length self.old) }
-        ensures ok { OnOk result (self.new ≡ self.old ++ record { lits = clause.now; tag = tag; origin = origin } ∷ []) }
+        ensures ok { OnOk result
+            (self.new ≡ self.old ++ record { lits = clause.now; tag = tag; origin = origin } ∷ []) }
         ensures err { OnErr result (self.new ≡ self.old) }
     {
         let lits = clause.lits();
@@ -115,8 +118,8 @@ impl Arena {
         self.lits.swap(start + i, start + j);
     }
 
-    /// Takes back the clauses behind the first `len`. Where there are no more than that, nothing changes.
-    /// Takes no memory.
+    /// Takes back the clauses behind the first `len`. Where there are no more than that, nothing
+    /// changes. Takes no memory.
     pub fn truncate(&mut self, len: usize)
         ensures { self.new ≡ take len self.old }
     {
@@ -127,7 +130,8 @@ impl Arena {
     }
 }
 
-// The first bound, where there is none, and room for two: an `add` then ends with no want of memory.
+// The first bound, where there is none, and room for two: an `add` then ends with no want of
+// memory.
 fn begin(bounds: &mut Vec<u32>) -> Result<(), AllocError>
     ensures ok { OnOk result (bounds.new.items ≡ begun bounds.old.items) }
     ensures err { OnErr result (bounds.new.items ≡ bounds.old.items) }

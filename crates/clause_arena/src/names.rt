@@ -1,6 +1,7 @@
 //! Tags and origins of clauses, twelve bytes for each.
 
-ghost use Rattle.std.specs.Prelude.{◌≡◌, ℕ, ◌<◌, [], ◌∷◌, ◌++◌, length, take, IfSome, IfOk, OnOk, OnErr};
+ghost use Rattle.std.specs.Prelude.{◌≡◌, ℕ, ◌<◌, [], ◌∷◌, ◌++◌, length, take, IfSome, IfOk, OnOk};
+ghost use Rattle.std.specs.Prelude.{OnErr};
 ghost use Rattle.clause_arena.specs.Named.{named_at, ref_of, IsAmong, IsPlain};
 
 use sat_base::Ref;
@@ -8,8 +9,8 @@ use std::alloc::{AllocError, Global};
 use std::marker::Model;
 use std::mem::size_of;
 
-// A `Ref` in eight bytes, a variant for each of its own. A name whose numbers are too large for that stands
-// as it is in a list beside, and the origin has its place there.
+// A `Ref` in eight bytes, a variant for each of its own. A name whose numbers are too large for
+// that stands as it is in a list beside, and the origin has its place there.
 #[derive(Clone, Copy, Debug)]
 enum Origin {
     Input(u32),
@@ -104,7 +105,8 @@ impl Names {
     }
 
     pub(crate) fn push(&mut self, tag: u32, origin: Ref) -> Result<(), AllocError>
-        ensures ok { OnOk result (self.new ≡ self.old ++ record { tag = tag; origin = origin } ∷ []) }
+        ensures ok { OnOk result
+            (self.new ≡ self.old ++ record { tag = tag; origin = origin } ∷ []) }
         ensures err { OnErr result (self.new ≡ self.old) }
     {
         // First the room: a name that is listed stays there.

@@ -20,7 +20,7 @@ use Rattle.entry_core.specs.Right.{AreLiterals, Subsumes, IsSpent}
 use Rattle.entry_core.specs.Legal.{AreWithinLimits, IsLegal}
 use Rattle.entry_core.specs.Causes.{IsUnknown, spent_lists}
 use Rattle.entry_core.specs.Law.{LargeBudgetsAnswer}
-use Rattle.entry_core.proofs.SharedSteps.{from_filter}
+use Rattle.trace_core.proofs.Items.{Contains-from_filter}
 use Rattle.entry_core.proofs.VerdictCauses.{verdicts_have_causes}
 
 -- the literals of the clause among those of the variables 1 to n, in strictly ascending order
@@ -64,7 +64,8 @@ set_has n clause lit from to has =
 set_from : (n : ℕ) (clause : List ℕ) (lit : ℕ) → Contains (set_over n clause) lit → (2 ≤ lit) × (lit < 2 + 2 * n) × Contains clause lit
 set_from n clause lit has =
     let test : ℕ → Bool = λ lit. list_any (λ code. code == lit) clause in
-    let range = in_range 2 (2 * n) lit (from_filter test (range_with_len 2 (2 * n)) lit has) in
+    let range = in_range 2 (2 * n) lit
+    (Contains-from_filter test (range_with_len 2 (2 * n)) lit has).0 in
     let passes : test lit ≡ true = All-contains (λ x. test x ≡ true) (set_over n clause) lit (filter_passes test (range_with_len 2 (2 * n))) has in
     let member = any_member (λ code. code == lit) clause passes in
     (range.0, range.1, subst (Contains clause) (same_code member.0 lit member.2) member.1)

@@ -1,18 +1,19 @@
 -- Each entry of a legal journal was allowed after the entries before it, and what it said stays right.
-use Rattle.std.proofs.Common.{◌≡◌, ◌∙◌, ℕ, ◌-◌, ◌≤◌, Bool, true, false, cond, Option, Some, None, List, [], ◌∷◌, ◌++◌, refl, ap, subst, sym, inl, inr, arith, append_assoc}
-use Rattle.std.specs.Prelude.{◌⊎◌, Contains, filter_map}
+use Rattle.std.proofs.Common.{◌≡◌, ◌∙◌, ℕ, ◌≤◌, Bool, true, false, cond, Option, Some, None, List}
+use Rattle.std.proofs.Common.{[], ◌∷◌, ◌++◌, refl, ap, subst, sym, inl, inr, arith, append_assoc}
+use Rattle.std.specs.Prelude.{◌⊎◌, Contains, filter_map, not, ◌||◌}
 use Rattle.std.specs.List.{cons_option}
 use Rattle.std.specs.Arc.{arc_value}
 use Rattle.std.proofs.lemmas.Bool.Decides.{nat_tests}
 use Rattle.std.proofs.lemmas.List.{append-nil}
 use Rattle.std.proofs.lemmas.List.Elements.{filter_map-append}
-use Rattle.std.proofs.lemmas.Option.{same_Some, slice_get_within}
+use Rattle.std.proofs.lemmas.Option.{same_Some}
 use Rattle.sat_base.specs.Lit.{variables}
 use Rattle.sat_base.specs.Truth.{IsModelOf, IsRefutedPart}
 use Rattle.sat_base.proofs.Members.{Contains-here, Contains-there, Contains-cases}
 use Rattle.trace_core.specs.Known.{Known, item_at}
 use Rattle.trace_core.specs.Trace.{IsTrace}
-use Rattle.trace_core.proofs.Soundness.{item_at-contains}
+use Rattle.trace_core.proofs.Items.{item_at-contains, item_at-append}
 use Rattle.entry_core.specs.declared.answers.Answer.{Answer}
 use Rattle.entry_core.specs.declared.answers.Answer.TheVariants as answer
 use Rattle.entry_core.specs.declared.entries.Entry.{Entry}
@@ -25,8 +26,12 @@ use Rattle.entry_core.specs.Settled.{Decision, decision_of, decisions}
 use Rattle.entry_core.specs.Right.{IsRightAnswer, IsSpent, IsSpentFor}
 use Rattle.entry_core.specs.Legal.{IsAllowed, IsLegalAfter, IsLegal, MayDecide, MaySpend}
 use Rattle.entry_core.specs.Causes.{spent_list_of, spent_lists}
-use Rattle.entry_core.proofs.Inputs.{item_found}
-use Rattle.entry_core.proofs.LongerJournals.{item_kept, longer_journal_keeps}
+use Rattle.entry_core.proofs.LongerJournals.{longer_journal_keeps}
+
+-- A number that was just listed is among those that are listed.
+pub or_yes : (b : Bool) → not (b || (true || false)) ≡ false
+or_yes true = refl
+or_yes false = refl
 
 -- what a reading gives comes from an item
 pub from_reading : {X Y : Type 0} (read : X → Option Y) (items : List X) (y : Y) → Contains (filter_map read items) y → (x : X) × Contains items x × (read x ≡ Some y)
@@ -55,15 +60,27 @@ into_reading {X} {Y} read (item ∷ rest) x y has is = by_item (read item) refl 
         subst (Contains (first ∷ filter_map read rest)) it (Contains-here first (filter_map read rest))
     by_item (Some first) some recur (inr later) = Contains-there first y (filter_map read rest) (recur later)
 
--- a journal is legal with one allowed entry more
-legal_after : (rules : Rules) (before journal : List Entry) (entry : Entry) → IsLegalAfter rules before journal → IsAllowed rules (before ++ journal) entry.caller entry.event
+-- Entries are legal with one more behind them that is allowed then.
+pub legal_after : (rules : Rules) (before journal : List Entry) (entry : Entry)
+    → IsLegalAfter rules before journal
+    → IsAllowed rules (before ++ journal) entry.caller entry.event
     → IsLegalAfter rules before (journal ++ entry ∷ [])
-legal_after rules before [] entry legal allowed = (subst (λ (all : List Entry). IsAllowed rules all entry.caller entry.event) (append-nil before) allowed, tt)
+legal_after rules before [] entry legal allowed = (
+  subst (λ (all : List Entry). IsAllowed rules all entry.caller entry.event) (append-nil before)
+      allowed,
+  tt,
+)
 legal_after rules before (first ∷ rest) entry legal allowed = (
   legal.0,
   legal_after rules (before ++ first ∷ []) rest entry legal.1
-      (subst (λ (all : List Entry). IsAllowed rules all entry.caller entry.event) (sym (append_assoc before (first ∷ []) rest)) allowed),
+      (subst (λ (all : List Entry). IsAllowed rules all entry.caller entry.event)
+      (sym (append_assoc before (first ∷ []) rest)) allowed),
 )
+
+-- A journal is legal with one allowed entry more.
+pub legal_push : (rules : Rules) (journal : List Entry) (entry : Entry) → IsLegal rules journal
+    → IsAllowed rules journal entry.caller entry.event → IsLegal rules (journal ++ entry ∷ [])
+legal_push rules journal entry legal allowed = legal_after rules [] journal entry legal allowed
 
 -- the entries before an entry are a legal journal, after which it was allowed
 pub record WasAllowed (rules : Rules) (journal : List Entry) (entry : Entry) : Type 0 where
@@ -76,7 +93,9 @@ pub record WasAllowed (rules : Rules) (journal : List Entry) (entry : Entry) : T
 allowed_after : (rules : Rules) (before rest : List Entry) (entry : Entry) → IsLegal rules before → IsLegalAfter rules before rest → Contains rest entry → WasAllowed rules (before ++ rest) entry
 allowed_after rules before [] entry past legal (k, lt, is) = absurd (omega arith)
 allowed_after rules before (first ∷ rest) entry past legal has =
-    here_or_later (λ later. allowed_after rules (before ++ first ∷ []) rest entry (legal_after rules [] before first past legal.0) legal.1 later) (Contains-cases first entry rest has)
+    here_or_later (λ later. allowed_after rules (before ++ first ∷ []) rest entry
+    (legal_push rules before first past legal.0) legal.1 later)
+    (Contains-cases first entry rest has)
   where
     here_or_later : (Contains rest entry → WasAllowed rules ((before ++ first ∷ []) ++ rest) entry) → (first ≡ entry) ⊎ Contains rest entry → WasAllowed rules (before ++ first ∷ rest) entry
     here_or_later recur (inl same) = record {
@@ -94,10 +113,8 @@ was_allowed rules journal entry legal has = allowed_after rules [] journal entry
 -- an attempt keeps its number
 pub attempt_kept : (journal more : List Entry) (number : ℕ) (begun : Attempt) → attempt journal number ≡ Some begun → attempt (journal ++ more) number ≡ Some begun
 attempt_kept journal more number begun is =
-    let found = item_found (attempts journal) number begun is in
-    let within = slice_get_within (attempts journal) (number - 1) begun found.1 in
     ap (λ all. item_at all number) (filter_map-append (λ (entry : Entry). begun_by entry.caller entry.event) journal more)
-    ∙ item_kept (attempts journal) (attempts more) number (let place = found.0 in omega arith) ∙ is
+    ∙ item_at-append (attempts journal) (attempts more) number begun is
 
 -- the attempt at the job that a test found
 pub own_attempt : (journal : List Entry) (job number : ℕ) → is_attempt_at journal job number ≡ true → (begun : Attempt) × (attempt journal number ≡ Some begun) × (begun.job ≡ job)

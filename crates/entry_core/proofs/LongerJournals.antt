@@ -1,10 +1,14 @@
 -- What a longer journal keeps.
-use Rattle.std.proofs.Common.{◌≡◌, ◌∙◌, ℕ, zero, suc, ◌+◌, ◌-◌, ◌<◌, ◌≤◌, Bool, true, false, cond, Option, Some, None, List, [], ◌∷◌, ◌++◌, map, length, refl, ap, sym, arith, append_assoc, length-append}
-use Rattle.std.specs.Prelude.{◌==◌, filter, slice_get, nat_le}
+use Rattle.std.proofs.Common.{◌≡◌, ◌∙◌, ℕ, suc, ◌+◌, ◌<◌, ◌≤◌, false, cond, Option, Some, None}
+use Rattle.std.proofs.Common.{List, [], ◌∷◌, ◌++◌, map, length, refl, ap, sym, arith, append_assoc}
+use Rattle.std.proofs.Common.{length-append}
+use Rattle.std.specs.Prelude.{filter, nat_le}
 use Rattle.std.proofs.lemmas.Bool.Decides.{nat_tests}
 use Rattle.std.proofs.lemmas.List.Elements.{filter-append, filter_map-append}
 use Rattle.std.proofs.lemmas.List.{append-nil}
 use Rattle.trace_core.specs.Known.{Known, item_at}
+use Rattle.trace_core.proofs.Items.{item_at-kept}
+pub use Rattle.trace_core.proofs.Items.{item_at-kept as item_kept}
 use Rattle.entry_core.specs.declared.segments.Segment.{Segment}
 use Rattle.entry_core.specs.declared.answers.Verdict.{Verdict}
 use Rattle.entry_core.specs.declared.entries.Entry.{Entry}
@@ -55,22 +59,10 @@ inputs_kept journal more job le =
     ∙ ap (λ xs. inputs_of journal job ++ xs) (none_later job (1 + jobs journal) (segments more) (omega arith))
     ∙ append-nil (inputs_of journal job)
 
-get_in_front : {X : Type 0} (xs ys : List X) (i : ℕ) → i < length xs → slice_get (xs ++ ys) i ≡ slice_get xs i
-get_in_front [] ys i lt = absurd (omega arith)
-get_in_front (x ∷ xs) ys zero lt = refl
-get_in_front (x ∷ xs) ys (suc i) lt = get_in_front xs ys i (omega arith)
-
--- an item of the front stays
-pub item_kept : {X : Type 0} (xs ys : List X) (place : ℕ) → place ≤ length xs → item_at (xs ++ ys) place ≡ item_at xs place
-item_kept {X} xs ys place le = guarded (place == 0) refl
-  where
-    guarded : (b : Bool) → (place == 0) ≡ b → cond b None (slice_get (xs ++ ys) (place - 1)) ≡ cond b None (slice_get xs (place - 1))
-    guarded true is = refl
-    guarded false is = let lt : place - 1 < length xs = grind (arith, nat_tests) in get_in_front xs ys (place - 1) lt
-
 pub cubes_kept : (journal more : List Entry) (job : ℕ) → job ≤ jobs journal → cube_of (journal ++ more) job ≡ cube_of journal job
 cubes_kept journal more job le =
-    ap (λ all. cube_in (item_at all job)) (segments-append journal more) ∙ ap cube_in (item_kept (segments journal) (segments more) job le)
+    ap (λ all. cube_in (item_at all job)) (segments-append journal more)
+    ∙ ap cube_in (item_at-kept (segments journal) (segments more) job le)
 
 -- a verdict that stands is not changed by later entries
 pub verdict_kept : (rules : Rules) (before journal more : List Entry) (job : ℕ) (verdict : Verdict)
@@ -83,6 +75,24 @@ verdict_kept rules before (entry ∷ journal) more job verdict is =
         → or_else now (settled_after rules (before ++ entry ∷ []) journal job) ≡ Some verdict → or_else now (settled_after rules (before ++ entry ∷ []) (journal ++ more) job) ≡ Some verdict
     first (Some found) recur h = h
     first None recur h = recur h
+
+-- Where no case stands after some entries, and none settles the job behind them, none stands after
+-- all.
+pub no_case_later : (rules : Rules) (before journal : List Entry) (job : ℕ)
+    → standing rules before job ≡ None → settled_after rules before journal job ≡ None
+    → standing rules (before ++ journal) job ≡ None
+no_case_later rules before [] job none is =
+    ap (λ (all : List Entry). standing rules all job) (append-nil before) ∙ none
+no_case_later rules before (entry ∷ rest) job none is =
+    let now = standing rules (before ++ entry ∷ []) job in
+    let later = settled_after rules (before ++ entry ∷ []) rest job in
+    let both = neither now later is in
+    ap (λ (all : List Entry). standing rules all job) (sym (append_assoc before (entry ∷ []) rest))
+    ∙ no_case_later rules (before ++ entry ∷ []) rest job both.0 both.1
+  where
+    neither : (a b : Option Verdict) → or_else a b ≡ None → (a ≡ None) × (b ≡ None)
+    neither None b is = (refl, is)
+    neither (Some found) b is = absurd (cc)
 
 pub longer_journal_keeps : LongerJournalKeeps
 longer_journal_keeps rules journal more = record {

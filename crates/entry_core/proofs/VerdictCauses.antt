@@ -4,7 +4,7 @@ use Rattle.std.specs.Prelude.{Contains, filter_map, find, count_by, option_map, 
 use Rattle.std.specs.List.{list_any, cons_option}
 use Rattle.std.specs.Arc.{arc_value}
 use Rattle.std.proofs.lemmas.Bool.Decides.{nat_tests}
-use Rattle.std.proofs.lemmas.List.Elements.{filter_map-append}
+use Rattle.std.proofs.lemmas.List.Elements.{filter_map-append, Contains-append_left}
 use Rattle.std.proofs.lemmas.List.Sums.{sum_by-cons}
 use Rattle.std.proofs.lemmas.Option.{same_Some}
 use Rattle.sat_base.specs.Truth.{IsModelOf}
@@ -25,7 +25,6 @@ use Rattle.entry_core.specs.Legal.{IsLegal}
 use Rattle.entry_core.specs.Causes.{spent_list_of, spent_lists, HasCause}
 use Rattle.entry_core.specs.Law.{VerdictsHaveCauses}
 use Rattle.entry_core.proofs.LegalEntries.{from_reading, into_reading, attempt_kept, own_kept, decision_right, list_right}
-use Rattle.entry_core.proofs.SharedSteps.{in_front}
 
 -- the place at which a case first stands
 record HasStood (rules : Rules) (journal : List Entry) (job : ℕ) (given : Verdict) : Type 0 where
@@ -72,7 +71,8 @@ found_in {X} test (item ∷ rest) x is = by_test (test item) refl (λ h. found_i
 -- what a reading of a journal gives, it gives of a longer one
 reading_kept : {X : Type 0} (read : Entry → Option X) (journal more : List Entry) (x : X) → Contains (filter_map read journal) x → Contains (filter_map read (journal ++ more)) x
 reading_kept read journal more x has =
-    subst (λ items. Contains items x) (sym (filter_map-append read journal more)) (in_front (filter_map read journal) (filter_map read more) x has)
+    subst (λ items. Contains items x) (sym (filter_map-append read journal more))
+    (Contains-append_left (filter_map read journal) (filter_map read more) x has)
 
 same_job : (number job : ℕ) → (number == job) ≡ true → number ≡ job
 same_job number job is = grind (arith, nat_tests)

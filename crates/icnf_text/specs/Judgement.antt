@@ -1,5 +1,7 @@
 -- The statements of a text, and its first wrong place.
-use Rattle.std.specs.Prelude.{ℕ, nat_lt, nat_le, ◌==◌, ◌&&◌, ◌||◌, not, Bool, true, false, if◌then◌else◌, Option, Some, None, is_some, List, [], ◌∷◌, ◌++◌, map, filter, length, take, codes, count_by}
+use Rattle.std.specs.Prelude.{ℕ, nat_lt, nat_le, ◌==◌, ◌&&◌, ◌||◌, not, Bool, true, false}
+use Rattle.std.specs.Prelude.{if◌then◌else◌, Option, Some, None, is_some, List, [], ◌∷◌, ◌++◌, map}
+use Rattle.std.specs.Prelude.{filter, length, take, codes, count_by}
 use Rattle.std.specs.Option.{option_or, option_map}
 use Rattle.std.specs.Str.{bytes_eq}
 use Rattle.sat_base.specs.Limits.{most_clauses, most_jobs, most_literals}
@@ -13,15 +15,19 @@ use Rattle.icnf_text.specs.declared.faults.Fault.{Fault}
 use Rattle.icnf_text.specs.Layout.{Token, tokens_of, line_behind, last_line}
 use Rattle.icnf_text.specs.Number.{is_zero, is_mark, is_literal, is_variable, variable_of, code_of}
 
--- The tokens of each statement, its `0` with them, where these tokens stand before; what stands behind the last `0` belongs to none.
+-- The tokens of each statement, its `0` with them, where these tokens stand before; what stands
+-- behind the last `0` belongs to none.
 abbrev pub groups_after : List Token → List Token → List (List Token)
 groups_after before [] = []
-groups_after before (token ∷ tokens) = if is_zero token.bytes then (before ++ token ∷ []) ∷ groups_after [] tokens else groups_after (before ++ token ∷ []) tokens
+groups_after before (token ∷ tokens) =
+    if is_zero token.bytes then (before ++ token ∷ []) ∷ groups_after [] tokens
+    else groups_after (before ++ token ∷ []) tokens
 
 -- the tokens behind the last `0`: those of a statement that has no `0` yet
 abbrev pub open_after : List Token → List Token → List Token
 open_after before [] = before
-open_after before (token ∷ tokens) = if is_zero token.bytes then open_after [] tokens else open_after (before ++ token ∷ []) tokens
+open_after before (token ∷ tokens) =
+    if is_zero token.bytes then open_after [] tokens else open_after (before ++ token ∷ []) tokens
 
 abbrev pub groups_of : List Token → List (List Token)
 groups_of tokens = groups_after [] tokens
@@ -31,7 +37,9 @@ open_of tokens = open_after [] tokens
 
 -- the codes of the literal tokens among these
 abbrev pub lits_of : List Token → List ℕ
-lits_of tokens = map (λ (token : Token). code_of token.bytes) (filter (λ (token : Token). is_literal token.bytes) tokens)
+lits_of tokens =
+    map (λ (token : Token). code_of token.bytes)
+    (filter (λ (token : Token). is_literal token.bytes) tokens)
 
 abbrev pub begins_cube : List Token → Bool
 begins_cube [] = false
@@ -41,11 +49,14 @@ abbrev pub first_line : List Token → ℕ
 first_line [] = 0
 first_line (token ∷ tokens) = token.line
 
--- the statement of a group: a cube where its first token is `a`; its line is that of its first token
+-- the statement of a group: a cube where its first token is `a`; its line is that of its first
+-- token
 abbrev pub statement_of : List Token → Numbered
 statement_of group = record {
   line = first_line group;
-  statement = if begins_cube group then Cube (in_order (lits_of group)) else Clause (in_order (lits_of group));
+  statement =
+      if begins_cube group then Cube (in_order (lits_of group))
+      else Clause (in_order (lits_of group));
 }
 
 abbrev pub statements_of : List Token → List Numbered
@@ -73,12 +84,14 @@ abbrev pub is_one_too_many : List Token → List ℕ → Bool
 is_one_too_many before bytes =
     if is_mark bytes
     then nat_le most_jobs (count_cubes (statements_of before))
-    else (is_begin before && nat_le most_clauses (count_clauses (statements_of before))) || (is_literal bytes && nat_le most_literals (count_literals before))
+    else (is_begin before && nat_le most_clauses (count_clauses (statements_of before))) ||
+    (is_literal bytes && nat_le most_literals (count_literals before))
 
 -- what is wrong with a token of the statements, if these right ones stand before it
 abbrev pub reason_of : List Token → List ℕ → Option Reason
 reason_of before bytes =
-    if not (is_zero bytes || is_literal bytes || is_mark bytes && is_begin before) then Some reason.Token
+    if not (is_zero bytes || is_literal bytes || is_mark bytes && is_begin before)
+    then Some reason.Token
     else if is_literal bytes && not (is_variable (variable_of bytes)) then Some reason.Variable
     else if is_one_too_many before bytes then Some reason.TooMany
     else None
@@ -86,7 +99,9 @@ reason_of before bytes =
 -- Tokens are judged in order: the tokens before the first wrong one,
 abbrev pub right_after : List Token → List Token → List Token
 right_after before [] = before
-right_after before (token ∷ tokens) = if is_some (reason_of before token.bytes) then before else right_after (before ++ token ∷ []) tokens
+right_after before (token ∷ tokens) =
+    if is_some (reason_of before token.bytes) then before
+    else right_after (before ++ token ∷ []) tokens
 
 abbrev pub fault_on : ℕ → Option Reason → Option Fault
 fault_on line why = option_map (λ r. record { line = line; reason = r }) why
@@ -94,9 +109,12 @@ fault_on line why = option_map (λ r. record { line = line; reason = r }) why
 -- and that one's fault.
 abbrev pub wrong_after : List Token → List Token → Option Fault
 wrong_after before [] = None
-wrong_after before (token ∷ tokens) = option_or (fault_on token.line (reason_of before token.bytes)) (wrong_after (before ++ token ∷ []) tokens)
+wrong_after before (token ∷ tokens) =
+    option_or (fault_on token.line (reason_of before token.bytes))
+    (wrong_after (before ++ token ∷ []) tokens)
 
--- What the first tokens say: no header yet, none on this line, or a header with these tokens on the lines behind it.
+-- What the first tokens say: no header yet, none on this line, or a header with these tokens on the
+-- lines behind it.
 pub data Header : Type 0 where
   Missing : Header
   Broken : ℕ → Header
@@ -105,12 +123,16 @@ pub data Header : Type 0 where
 abbrev pub is_behind : ℕ → Token → Bool
 is_behind line token = nat_lt line token.line
 
--- the first line with a token must have `p` first and `inccnf` second; here a text stands on this line
+-- the first line with a token must have `p` first and `inccnf` second; here a text stands on this
+-- line
 abbrev pub header_of : ℕ → List Token → Header
 header_of line [] = Missing
-header_of line (first ∷ []) = if bytes_eq first.bytes (codes "p") && not (nat_lt first.line line) then Missing else Broken first.line
+header_of line (first ∷ []) =
+    if bytes_eq first.bytes (codes "p") && not (nat_lt first.line line) then Missing
+    else Broken first.line
 header_of line (first ∷ second ∷ tokens) =
-    if bytes_eq first.bytes (codes "p") && first.line == second.line && bytes_eq second.bytes (codes "inccnf")
+    if bytes_eq first.bytes (codes "p") && first.line == second.line && bytes_eq second.bytes
+    (codes "inccnf")
     then Found (filter (is_behind first.line) tokens)
     else Broken first.line
 
@@ -130,7 +152,9 @@ wrong_under (Found tokens) = wrong_after [] tokens
 abbrev pub wrong_end : ℕ → Header → Option Fault
 wrong_end line Missing = Some (record { line = line; reason = reason.Header })
 wrong_end line (Broken _) = None
-wrong_end line (Found tokens) = if length (open_of tokens) == 0 then None else Some (record { line = line; reason = reason.Unfinished })
+wrong_end line (Found tokens) =
+    if length (open_of tokens) == 0 then None
+    else Some (record { line = line; reason = reason.Unfinished })
 
 -- a text may have that many bytes
 abbrev pub is_too_long : List ℕ → Bool
@@ -141,15 +165,21 @@ within text = take 4294967296 text
 
 -- what the tokens say that have ended; the byte after the last one that may be there ends none
 abbrev pub header : List ℕ → Bool → Header
-header text ended = header_of (line_behind (within text)) (tokens_of (within text) (ended && not (is_too_long text)))
+header text ended =
+    header_of (line_behind (within text))
+    (tokens_of (within text) (ended && not (is_too_long text)))
 
--- The statements before the first wrong place, with the lines of their first tokens. Of a text that isn't ended only a prefix has come.
+-- The statements before the first wrong place, with the lines of their first tokens. Of a text that
+-- isn't ended only a prefix has come.
 unfoldable pub statements : List ℕ → Bool → List Numbered
 statements text ended = statements_under (header text ended)
 
 -- the first wrong place
 unfoldable pub wrong : List ℕ → Bool → Option Fault
 wrong text ended = option_or (wrong_under (header text ended))
-    (if is_too_long text then Some (record { line = line_behind (within text); reason = reason.TooLong })
+    (if is_too_long text then Some (record {
+      line = line_behind (within text);
+      reason = reason.TooLong;
+    })
     else if ended then wrong_end (last_line text) (header text ended)
     else None)

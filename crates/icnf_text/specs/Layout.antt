@@ -1,5 +1,6 @@
 -- Lines, comments and tokens of a text.
-use Rattle.std.specs.Prelude.{ℕ, ◌+◌, ◌-◌, ◌==◌, ◌||◌, nat_lt, Bool, false, if◌then◌else◌, List, [], ◌∷◌, ◌++◌, map, filter, length, take, slice_index, count_by}
+use Rattle.std.specs.Prelude.{ℕ, ◌+◌, ◌-◌, ◌==◌, ◌||◌, nat_lt, Bool, false, if◌then◌else◌, List, []}
+use Rattle.std.specs.Prelude.{◌∷◌, ◌++◌, map, filter, length, take, slice_index, count_by}
 use Rattle.std.specs.List.{slice_split}
 
 -- space, tab and carriage return
@@ -22,7 +23,8 @@ words_of line = filter is_word (slice_split is_blank line)
 
 -- those that a blank ends: what stands behind the last blank isn't among them
 abbrev pub ended_words_of : List ℕ → List (List ℕ)
-ended_words_of line = let pieces = slice_split is_blank line in filter is_word (take (length pieces - 1) pieces)
+ended_words_of line =
+    let pieces = slice_split is_blank line in filter is_word (take (length pieces - 1) pieces)
 
 -- the first byte that is no blank is `c`
 abbrev pub begins_with_c : List (List ℕ) → Bool
@@ -39,13 +41,17 @@ pub record Token : Type 0 where
 
 -- the tokens of a line, from its words: a comment has none
 abbrev pub tokens_on : ℕ → List ℕ → List (List ℕ) → List Token
-tokens_on number line words = if is_comment line then [] else map (λ word. record { line = number; bytes = word }) words
+tokens_on number line words =
+    if is_comment line then [] else map (λ word. record { line = number; bytes = word }) words
 
--- the tokens of lines, the first of which has this number; the end of the last line ends a token only where the text is ended
+-- the tokens of lines, the first of which has this number; the end of the last line ends a token
+-- only where the text is ended
 abbrev pub tokens_from : Bool → ℕ → List (List ℕ) → List Token
 tokens_from ended number [] = []
-tokens_from ended number (line ∷ []) = tokens_on number line (if ended then words_of line else ended_words_of line)
-tokens_from ended number (line ∷ more ∷ lines) = tokens_on number line (words_of line) ++ tokens_from ended (number + 1) (more ∷ lines)
+tokens_from ended number (line ∷ []) =
+    tokens_on number line (if ended then words_of line else ended_words_of line)
+tokens_from ended number (line ∷ more ∷ lines) =
+    tokens_on number line (words_of line) ++ tokens_from ended (number + 1) (more ∷ lines)
 
 -- the tokens of a text that have ended, in order; lines are numbered from 1
 abbrev pub tokens_of : List ℕ → Bool → List Token
@@ -57,4 +63,6 @@ line_behind text = count_by is_line_feed text + 1
 
 -- the number of the last line: the line feeds, and one more where the text doesn't end with one
 abbrev pub last_line : List ℕ → ℕ
-last_line text = count_by is_line_feed text + (if is_line_feed (slice_index text (length text - 1)) then 0 else 1)
+last_line text =
+    count_by is_line_feed text +
+    (if is_line_feed (slice_index text (length text - 1)) then 0 else 1)

@@ -1,6 +1,8 @@
 -- The states of a reader that sees one byte after another and keeps no token and no line.
 -- What they say of the text so far is stated without them, in `Judgement`.
-use Rattle.std.specs.Prelude.{◌≡◌, ℕ, ◌+◌, ◌-◌, ◌*◌, nat_lt, nat_le, ◌==◌, ◌&&◌, Bool, true, false, if◌then◌else◌, Option, Some, None, List, [], ◌∷◌, ◌++◌, slice_index, codes, IsTrue}
+use Rattle.std.specs.Prelude.{◌≡◌, ℕ, ◌+◌, ◌-◌, ◌*◌, nat_lt, nat_le, ◌==◌, ◌&&◌, Bool, true, false}
+use Rattle.std.specs.Prelude.{if◌then◌else◌, Option, Some, None, List, [], ◌∷◌, ◌++◌, slice_index}
+use Rattle.std.specs.Prelude.{codes, IsTrue}
 use Rattle.std.specs.Char.{is_ascii_digit}
 use Rattle.sat_base.specs.Limits.{greatest_variable, most_clauses, most_jobs, most_literals}
 use Rattle.sat_base.specs.Lit.{in_order}
@@ -33,17 +35,21 @@ first_byte byte =
     else word.Strange
 
 abbrev pub first_digit : ℕ → Word
-first_digit byte = if is_ascii_digit byte && nat_lt 48 byte then word.Number true (byte - 48) else word.Strange
+first_digit byte =
+    if is_ascii_digit byte && nat_lt 48 byte then word.Number true (byte - 48) else word.Strange
 
 -- a number with one more digit; once it is above the greatest variable it stays there
 abbrev pub next_digit : Bool → ℕ → ℕ → Word
 next_digit negative variable byte =
     if is_ascii_digit byte
-    then word.Number negative (if nat_lt greatest_variable variable then variable else variable * 10 + (byte - 48))
+    then word.Number negative
+    (if nat_lt greatest_variable variable then variable else variable * 10 + (byte - 48))
     else word.Strange
 
 abbrev pub next_letter : ℕ → ℕ → Word
-next_letter count byte = if nat_lt count 6 && byte == slice_index (codes "inccnf") count then word.Inccnf (count + 1) else word.Strange
+next_letter count byte =
+    if nat_lt count 6 && byte == slice_index (codes "inccnf") count then word.Inccnf (count + 1)
+    else word.Strange
 
 abbrev pub extended : Word → ℕ → Word
 extended word.Nothing byte = first_byte byte
@@ -97,7 +103,11 @@ abbrev pub begun_at : Open → Parse → ℕ → Taken
 begun_at open_as.Nothing parse line =
     if nat_le most_clauses parse.clauses
     then stops parse reason.TooMany
-    else goes_on (record parse { opened = open_as.Clause; start = line; clauses = parse.clauses + 1 })
+    else goes_on (record parse {
+      opened = open_as.Clause;
+      start = line;
+      clauses = parse.clauses + 1;
+    })
 begun_at open_as.Clause parse line = goes_on parse
 begun_at open_as.Cube parse line = goes_on parse
 
@@ -114,7 +124,8 @@ pushed_unless None parse code =
 
 abbrev pub literal_taken : Option ℕ → Parse → ℕ → Taken
 literal_taken None parse line = stops parse reason.Variable
-literal_taken (Some code) parse line = pushed_unless (begun parse line).reason (begun parse line).parse code
+literal_taken (Some code) parse line =
+    pushed_unless (begun parse line).reason (begun parse line).parse code
 
 abbrev pub statement_as : Open → List ℕ → Statement
 statement_as open_as.Nothing lits = statement.Clause lits
@@ -127,7 +138,10 @@ closed_unless (Some why) parse = stops parse why
 closed_unless None parse = record {
   parse = record parse { opened = open_as.Nothing; lits = [] };
   reason = None;
-  given = record { line = parse.start; statement = statement_as parse.opened (in_order parse.lits) } ∷ [];
+  given = record {
+    line = parse.start;
+    statement = statement_as parse.opened (in_order parse.lits);
+  } ∷ [];
 }
 
 abbrev pub zero_taken : Parse → ℕ → Taken
@@ -136,7 +150,8 @@ zero_taken parse line = closed_unless (begun parse line).reason (begun parse lin
 abbrev pub token_taken : Parse → ℕ → Word → Taken
 token_taken parse line word.Zero = zero_taken parse line
 token_taken parse line word.Mark = mark_at parse.opened parse line
-token_taken parse line (word.Number negative variable) = literal_taken (lit_code negative variable) parse line
+token_taken parse line (word.Number negative variable) =
+    literal_taken (lit_code negative variable) parse line
 token_taken parse line word.Nothing = stops parse reason.Token
 token_taken parse line word.Minus = stops parse reason.Token
 token_taken parse line word.P = stops parse reason.Token
@@ -165,8 +180,10 @@ is_inccnf word.P = false
 is_inccnf word.Strange = false
 
 abbrev pub word_at : Phase → Parse → ℕ → Word → Taken
-word_at phase.Nothing parse line w = if is_p w then goes_on (record parse { phase = phase.AfterP }) else stops parse reason.Header
-word_at phase.AfterP parse line w = if is_inccnf w then goes_on (record parse { phase = phase.Rest }) else stops parse reason.Header
+word_at phase.Nothing parse line w =
+    if is_p w then goes_on (record parse { phase = phase.AfterP }) else stops parse reason.Header
+word_at phase.AfterP parse line w =
+    if is_inccnf w then goes_on (record parse { phase = phase.Rest }) else stops parse reason.Header
 word_at phase.Rest parse line w = goes_on parse
 word_at phase.Body parse line w = token_taken parse line w
 
@@ -189,7 +206,8 @@ end_at phase.AfterP parse = Some reason.Header
 end_at phase.Rest parse = None
 end_at phase.Body parse = is_open parse.opened
 
--- a reader: how many bytes it has seen, on which line it stands, where on that line, and in which word
+-- a reader: how many bytes it has seen, on which line it stands, where on that line, and in which
+-- word
 pub record State : Type 0 where
   pub parse : Parse
   pub bytes : ℕ
@@ -215,7 +233,12 @@ word_ended_at place.Comment state = quiet state
 word_ended_at place.Gap state = quiet state
 word_ended_at place.Word state =
     let taken = word_at state.parse.phase state.parse state.line state.word in record {
-      state = record state { parse = taken.parse; place = place.Gap; word = word.Nothing; fault = fault_on state.line taken.reason };
+      state = record state {
+        parse = taken.parse;
+        place = place.Gap;
+        word = word.Nothing;
+        fault = fault_on state.line taken.reason;
+      };
       given = taken.given;
     }
 
@@ -225,7 +248,12 @@ word_ended state = word_ended_at state.place state
 abbrev pub line_ended : State → State
 line_ended state =
     let taken = line_at state.parse.phase state.parse in
-    record state { parse = taken.parse; place = place.Start; line = state.line + 1; fault = fault_on state.line taken.reason }
+    record state {
+      parse = taken.parse;
+      place = place.Start;
+      line = state.line + 1;
+      fault = fault_on state.line taken.reason;
+    }
 
 abbrev pub line_ended_unless : Option Fault → State → State
 line_ended_unless (Some fault) state = state
@@ -239,7 +267,9 @@ margin place.Gap = place.Gap
 margin place.Word = place.Word
 
 abbrev pub begin_line : State → ℕ → State
-begin_line state byte = if byte == 99 then record state { place = place.Comment } else record state { place = place.Word; word = extended state.word byte }
+begin_line state byte =
+    if byte == 99 then record state { place = place.Comment }
+    else record state { place = place.Word; word = extended state.word byte }
 
 abbrev pub put_at : Place → State → ℕ → State
 put_at place.Start state byte = begin_line state byte
@@ -250,15 +280,22 @@ put_at place.Word state byte = record state { place = place.Word; word = extende
 
 abbrev pub with_byte : State → ℕ → Step
 with_byte state byte =
-    if byte == 10 then (let step = word_ended state in record step { state = line_ended_unless step.state.fault step.state })
-    else if is_blank byte then (let step = word_ended state in record step { state = record step.state { place = margin step.state.place } })
+    if byte == 10
+    then (let step = word_ended state in
+    record step { state = line_ended_unless step.state.fault step.state })
+    else if is_blank byte
+    then (let step = word_ended state in
+    record step { state = record step.state { place = margin step.state.place } })
     else quiet (put_at state.place state byte)
 
 abbrev pub read_unless : Option Fault → State → ℕ → Step
 read_unless (Some fault) state byte = quiet state
 read_unless None state byte =
     if nat_le 4294967296 state.bytes
-    then quiet (record state { fault = Some (record { line = state.line; reason = reason.TooLong }) })
+    then quiet (record state {
+      fault = Some
+          (record { line = state.line; reason = reason.TooLong });
+    })
     else with_byte (record state { bytes = state.bytes + 1 }) byte
 
 -- one byte more
@@ -266,7 +303,9 @@ unfoldable pub read_byte : State → ℕ → Step
 read_byte state byte = read_unless state.fault state byte
 
 abbrev pub and_then : Step → ℕ → Step
-and_then step byte = let next = read_byte step.state byte in record { state = next.state; given = step.given ++ next.given }
+and_then step byte =
+    let next = read_byte step.state byte
+    in record { state = next.state; given = step.given ++ next.given }
 
 abbrev pub read_bytes : Step → List ℕ → Step
 read_bytes step [] = step
@@ -282,18 +321,30 @@ last_at place.Word line = line
 
 abbrev pub ended_unless : Option Fault → State → State
 ended_unless (Some fault) state = state
-ended_unless None state = record state { fault = fault_on (last_at state.place state.line) (end_at state.parse.phase state.parse) }
+ended_unless None state = record state {
+  fault = fault_on (last_at state.place state.line)
+      (end_at state.parse.phase state.parse);
+}
 
 abbrev pub finished_unless : Option Fault → State → Step
 finished_unless (Some fault) state = quiet state
-finished_unless None state = let step = word_ended state in record step { state = ended_unless step.state.fault step.state }
+finished_unless None state =
+    let step = word_ended state in record step { state = ended_unless step.state.fault step.state }
 
 unfoldable pub finished : State → Step
 finished state = finished_unless state.fault state
 
 abbrev pub start : State
 start = record {
-  parse = record { phase = phase.Nothing; opened = open_as.Nothing; start = 0; lits = []; clauses = 0; cubes = 0; literals = 0 };
+  parse = record {
+    phase = phase.Nothing;
+    opened = open_as.Nothing;
+    start = 0;
+    lits = [];
+    clauses = 0;
+    cubes = 0;
+    literals = 0;
+  };
   bytes = 0;
   line = 1;
   place = place.Start;

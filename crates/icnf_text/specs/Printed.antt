@@ -1,5 +1,6 @@
 -- The text of statements, one on each line.
-use Rattle.std.specs.Prelude.{ℕ, ◌≤◌, if◌then◌else◌, not, List, [], ◌++◌, length, codes, count_by, sum_by, decimal}
+use Rattle.std.specs.Prelude.{ℕ, ◌≤◌, if◌then◌else◌, not, List, [], ◌++◌, length, codes, count_by}
+use Rattle.std.specs.Prelude.{sum_by, decimal}
 use Rattle.std.specs.List.{flat_map}
 use Rattle.sat_base.specs.Limits.{most_clauses, most_jobs, most_literals}
 use Rattle.sat_base.specs.Lit.{variable, is_negative}

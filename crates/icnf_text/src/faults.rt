@@ -6,8 +6,8 @@ ghost use Rattle.icnf_text.specs.Reasons.{reason_text};
 /// Why a text is wrong at a place.
 #[derive(Clone, Copy, Debug, PartialEq, Eq)]
 pub enum Reason {
-    /// There is no header where it must stand: the first line with a token has `p` first and `inccnf`
-    /// second.
+    /// There is no header where it must stand: the first line with a token has `p` first and
+    /// `inccnf` second.
     Header,
     /// A token is neither a number nor an `a` that begins a statement.
     Token,
@@ -15,7 +15,8 @@ pub enum Reason {
     Variable,
     /// The text ends inside a statement.
     Unfinished,
-    /// There are more than 16,777,216 clauses, 1,048,576 cubes or 33,554,432 literals, repeats counted.
+    /// There are more than 16,777,216 clauses, 1,048,576 cubes or 33,554,432 literals, repeats
+    /// counted.
     TooMany,
     /// There are more than 4,294,967,296 bytes.
     TooLong,

@@ -1,7 +1,7 @@
 //! The iCNF text: clauses and cubes of an incremental query, as bytes.
 //!
-//! The layers above use the statements of a text, and that reading gives exactly those of the definition in
-//! `specs/`. This crate knows no solver, no source of bytes and no runtime.
+//! The layers above use the statements of a text, and that reading gives exactly those of the
+//! definition in `specs/`. This crate knows no solver, no source of bytes and no runtime.
 #![tactic(auto)]
 
 mod faults;

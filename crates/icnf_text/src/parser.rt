@@ -1,7 +1,9 @@
 //! Statements from tokens.
 
 ghost use Rattle.std.specs.Prelude.{◌≡◌, ◌++◌, IfOk, OnOk};
-ghost use Rattle.icnf_text.specs.Machine.{begun, end_at, is_inccnf, is_p, line_at, literal_taken, lit_code, mark_at, start, token_taken, word_at, zero_taken};
+ghost use Rattle.icnf_text.specs.Machine.{begun, end_at, is_inccnf, is_p, line_at, literal_taken};
+ghost use Rattle.icnf_text.specs.Machine.{lit_code, mark_at, start, token_taken, word_at};
+ghost use Rattle.icnf_text.specs.Machine.{zero_taken};
 
 use crate::sets::{clause_of, cube_of};
 use crate::words::{Word, lit_of};
@@ -32,7 +34,8 @@ pub(crate) enum Open {
     Cube,
 }
 
-/// The statement that is open, with its literals so far, and how many clauses, cubes and literals have begun.
+/// The statement that is open, with its literals so far, and how many clauses, cubes and literals
+/// have begun.
 #[derive(Debug, Drop)]
 pub(crate) struct Parser {
     alloc: Global,
@@ -122,8 +125,10 @@ impl Parser {
         negative: bool,
         variable: u32,
     ) -> Result<Option<Reason>, AllocError>
-        ensures state { OnOk result (self.new ≡ (literal_taken (lit_code negative variable) self.old line).parse) }
-        ensures reason { IfOk result (λ reason. reason ≡ (literal_taken (lit_code negative variable) self.old line).reason) }
+        ensures state { OnOk result
+            (self.new ≡ (literal_taken (lit_code negative variable) self.old line).parse) }
+        ensures reason { IfOk result
+            (λ reason. reason ≡ (literal_taken (lit_code negative variable) self.old line).reason) }
     {
         let Some(lit) = lit_of(negative, variable) else {
             return Ok(Some(Reason::Variable));
@@ -143,7 +148,8 @@ impl Parser {
     fn zero(&mut self, line: u64, given: &mut Vec<Numbered>) -> Result<Option<Reason>, AllocError>
         ensures state { OnOk result (self.new ≡ (zero_taken self.old line).parse) }
         ensures reason { IfOk result (λ reason. reason ≡ (zero_taken self.old line).reason) }
-        ensures given { OnOk result (given.new.items ≡ given.old.items ++ (zero_taken self.old line).given) }
+        ensures given { OnOk result
+            (given.new.items ≡ given.old.items ++ (zero_taken self.old line).given) }
     {
         if let Some(reason) = self.begin(line) {
             return Ok(Some(reason));
@@ -169,7 +175,8 @@ impl Parser {
     ) -> Result<Option<Reason>, AllocError>
         ensures state { OnOk result (self.new ≡ (token_taken self.old line word).parse) }
         ensures reason { IfOk result (λ reason. reason ≡ (token_taken self.old line word).reason) }
-        ensures given { OnOk result (given.new.items ≡ given.old.items ++ (token_taken self.old line word).given) }
+        ensures given { OnOk result
+            (given.new.items ≡ given.old.items ++ (token_taken self.old line word).given) }
     {
         match word {
             Word::Zero => self.zero(line, given),
@@ -179,7 +186,8 @@ impl Parser {
         }
     }
 
-    /// Takes a word that has ended on this line, says what is wrong with it, and adds the statement that it ends.
+    /// Takes a word that has ended on this line, says what is wrong with it, and adds the statement
+    /// that it ends.
     pub(crate) fn word(
         &mut self,
         line: u64,
@@ -187,8 +195,11 @@ impl Parser {
         given: &mut Vec<Numbered>,
     ) -> Result<Option<Reason>, AllocError>
         ensures state { OnOk result (self.new ≡ (word_at self.old.phase self.old line word).parse) }
-        ensures reason { IfOk result (λ reason. reason ≡ (word_at self.old.phase self.old line word).reason) }
-        ensures given { OnOk result (given.new.items ≡ given.old.items ++ (word_at self.old.phase self.old line word).given) }
+        ensures reason { IfOk result
+            (λ reason. reason ≡ (word_at self.old.phase self.old line word).reason) }
+        ensures given { OnOk result
+            (given.new.items
+            ≡ given.old.items ++ (word_at self.old.phase self.old line word).given) }
     {
         match self.phase {
             Phase::Nothing => {

@@ -4,20 +4,22 @@ ghost use Rattle.std.specs.Prelude.{◌≡◌, ◌++◌, codes, map, true, None,
 ghost use Rattle.std.specs.List.{flat_map};
 ghost use Rattle.sat_base.specs.Lit.{IsLitSet};
 ghost use Rattle.icnf_text.specs.Judgement.{statements, wrong};
-ghost use Rattle.icnf_text.specs.Printed.{IsWithin, lits_in, lits_text, number_text, printed, statement_text};
+ghost use Rattle.icnf_text.specs.Printed.{IsWithin, lits_in, lits_text, number_text, printed};
+ghost use Rattle.icnf_text.specs.Printed.{statement_text};
 
 use crate::Statement;
 use itoa::Buffer;
 use sat_base::Lit;
 use std::alloc::{AllocError, Global};
 
-/// The text of these statements: the line `p inccnf`, and a line for each statement, its literals in
-/// ascending order with one space between two tokens. Where the list and this text are within the limits, reading
-/// it gives the list back.
+/// The text of these statements: the line `p inccnf`, and a line for each statement, its literals
+/// in ascending order with one space between two tokens. Where the list and this text are within
+/// the limits, reading it gives the list back.
 pub fn print(alloc: Global, list: &[Statement]) -> Result<Vec<u8>, AllocError>
     ensures text { IfOk result (λ text. text.items ≡ printed list.now) }
     ensures read_back { IfOk result (λ text. IsWithin list.now →
-        (wrong text.items true ≡ None) × (map (λ numbered. numbered.statement) (statements text.items true) ≡ list.now)) }
+        (wrong text.items true ≡ None)
+        × (map (λ numbered. numbered.statement) (statements text.items true) ≡ list.now)) }
 {
     let mut text = Vec::from_slice(alloc, b"p inccnf\n")?;
     for statement in list {

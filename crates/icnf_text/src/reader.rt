@@ -1,9 +1,11 @@
 //! A text in pieces.
 
-ghost use Rattle.std.specs.Prelude.{◌≡◌, ◌≤◌, false, true, ◌++◌, [], ◌∷◌, List, ℕ, Some, OnOk, OnErr, IfOk, IsErr};
+ghost use Rattle.std.specs.Prelude.{◌≡◌, ◌≤◌, false, true, ◌++◌, [], ◌∷◌, List, ℕ, Some, OnOk};
+ghost use Rattle.std.specs.Prelude.{OnErr, IfOk, IsErr};
 ghost use Rattle.icnf_text.specs.Judgement.{fault_on, statements, wrong};
 ghost use Rattle.icnf_text.specs.declared.faults.Fault.{Fault};
-ghost use Rattle.icnf_text.specs.Machine.{HasRead, IsLost, finished, last_at, put_at, read_byte, read_bytes, word_ended, margin, line_ended, quiet};
+ghost use Rattle.icnf_text.specs.Machine.{HasRead, IsLost, finished, last_at, put_at, read_byte};
+ghost use Rattle.icnf_text.specs.Machine.{read_bytes, word_ended, margin, line_ended, quiet};
 
 use crate::parser::Parser;
 use crate::places::Place;
@@ -14,16 +16,16 @@ use std::marker::Model;
 
 const MOST_BYTES: u64 = 4_294_967_296;
 
-/// What a piece of a text gave: the statements that it ended, and the first wrong place of the text so far,
-/// if there is one.
+/// What a piece of a text gave: the statements that it ended, and the first wrong place of the text
+/// so far, if there is one.
 #[derive(Debug, Drop)]
 pub struct Fed {
     pub statements: Statements,
     pub fault: Option<Fault>,
 }
 
-/// A reader of a text that comes in pieces. It keeps no token and no line, only the literals of a statement
-/// that hasn't ended.
+/// A reader of a text that comes in pieces. It keeps no token and no line, only the literals of a
+/// statement that hasn't ended.
 #[derive(Debug, Drop)]
 pub struct Reader {
     alloc: Global,
@@ -72,15 +74,21 @@ impl Reader {
         }
     }
 
-    /// Reads the next piece of the text. It gives the statements that this piece ended, up to the first wrong
-    /// place, and the first wrong place of the text so far, if there is one: from then on each call gives no
-    /// statement and the same fault. Once a call was refused memory, each later one is.
+    /// Reads the next piece of the text. It gives the statements that this piece ended, up to the
+    /// first wrong place, and the first wrong place of the text so far, if there is one: from then
+    /// on each call gives no statement and the same fault. Once a call was refused memory, each
+    /// later one is.
     pub fn feed(&mut self, piece: &[u8]) -> Result<Fed, AllocError>
-        ensures read { IfOk result (λ _. (text : List ℕ) → HasRead self.old text → HasRead self.new (text ++ piece.now)) }
+        ensures read { IfOk result
+            (λ _. (text : List ℕ) → HasRead self.old text → HasRead self.new (text ++ piece.now)) }
         ensures given { IfOk result (λ fed. (text : List ℕ) → HasRead self.old text →
             statements text false ++ fed.statements ≡ statements (text ++ piece.now) false) }
-        ensures fault { IfOk result (λ fed. (text : List ℕ) → HasRead self.old text → fed.fault ≡ wrong (text ++ piece.now) false) }
-        ensures after_fault { IfOk result (λ fed. (text : List ℕ) (fault : Fault) → HasRead self.old text → wrong text false ≡ Some fault →
+        ensures fault { IfOk result
+            (λ fed. (text : List ℕ) → HasRead self.old text
+            → fed.fault ≡ wrong (text ++ piece.now) false) }
+        ensures after_fault { IfOk result
+            (λ fed. (text : List ℕ) (fault : Fault) → HasRead self.old text
+            → wrong text false ≡ Some fault →
             (fed.statements ≡ []) × (fed.fault ≡ Some fault)) }
         ensures lost { OnErr result (IsLost self.new) }
         ensures stays_lost { IsLost self.old → IsErr result }
@@ -103,8 +111,11 @@ impl Reader {
 
     /// Ends the text, and with it a token that stands at its end.
     pub fn finish(self) -> Result<Fed, AllocError>
-        ensures given { IfOk result (λ fed. (text : List ℕ) → HasRead self text → statements text false ++ fed.statements ≡ statements text true) }
-        ensures fault { IfOk result (λ fed. (text : List ℕ) → HasRead self text → fed.fault ≡ wrong text true) }
+        ensures given { IfOk result
+            (λ fed. (text : List ℕ) → HasRead self text
+            → statements text false ++ fed.statements ≡ statements text true) }
+        ensures fault { IfOk result
+            (λ fed. (text : List ℕ) → HasRead self text → fed.fault ≡ wrong text true) }
         ensures lost { IsLost self → IsErr result }
     {
         let mut reader = self;
@@ -121,7 +132,8 @@ impl Reader {
 
     fn read_all(&mut self, piece: &[u8], given: &mut Vec<Numbered>) -> Result<(), AllocError>
         ensures state { OnOk result (self.new ≡ (read_bytes (quiet self.old) piece.now).state) }
-        ensures given { OnOk result (given.new.items ≡ given.old.items ++ (read_bytes (quiet self.old) piece.now).given) }
+        ensures given { OnOk result
+            (given.new.items ≡ given.old.items ++ (read_bytes (quiet self.old) piece.now).given) }
     {
         for byte in piece {
             self.read(*byte, given)?;
@@ -133,7 +145,8 @@ impl Reader {
     #[tactic(auto, unfolding(crate::specs::Machine::finished))]
     fn end(&mut self, given: &mut Vec<Numbered>) -> Result<(), AllocError>
         ensures state { OnOk result (self.new ≡ (finished self.old).state) }
-        ensures given { OnOk result (given.new.items ≡ given.old.items ++ (finished self.old).given) }
+        ensures given { OnOk result
+            (given.new.items ≡ given.old.items ++ (finished self.old).given) }
     {
         if self.fault.is_some() {
             return Ok(());
@@ -149,8 +162,10 @@ impl Reader {
     // The end of a word, if one stands here.
     fn end_word(&mut self, given: &mut Vec<Numbered>) -> Result<(), AllocError>
         ensures state { OnOk result (self.new ≡ (word_ended self.old).state) }
-        ensures given { OnOk result (given.new.items ≡ given.old.items ++ (word_ended self.old).given) }
-        ensures kept { OnOk result ((self.new.bytes ≡ self.old.bytes) × (self.new.line ≡ self.old.line)) }
+        ensures given { OnOk result
+            (given.new.items ≡ given.old.items ++ (word_ended self.old).given) }
+        ensures kept { OnOk result
+            ((self.new.bytes ≡ self.old.bytes) × (self.new.line ≡ self.old.line)) }
     {
         match self.place {
             Place::Word => {
@@ -200,7 +215,8 @@ impl Reader {
     #[tactic(auto, unfolding(crate::specs::Machine::read_byte))]
     fn read(&mut self, byte: u8, given: &mut Vec<Numbered>) -> Result<(), AllocError>
         ensures state { OnOk result (self.new ≡ (read_byte self.old byte).state) }
-        ensures given { OnOk result (given.new.items ≡ given.old.items ++ (read_byte self.old byte).given) }
+        ensures given { OnOk result
+            (given.new.items ≡ given.old.items ++ (read_byte self.old byte).given) }
     {
         if self.fault.is_some() {
             return Ok(());

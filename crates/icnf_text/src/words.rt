@@ -1,7 +1,8 @@
 //! What a reader keeps of the bytes of a token. It is a few bytes, however long the token is.
 
 ghost use Rattle.std.specs.Prelude.{◌≡◌};
-ghost use Rattle.icnf_text.specs.Machine.{extended, first_byte, first_digit, lit_code, next_digit, next_letter};
+ghost use Rattle.icnf_text.specs.Machine.{extended, first_byte, first_digit, lit_code, next_digit};
+ghost use Rattle.icnf_text.specs.Machine.{next_letter};
 
 use sat_base::Lit;
 use sat_base::limits::GREATEST_VARIABLE;
@@ -17,7 +18,8 @@ pub(crate) enum Word {
     Minus,
     /// `a`
     Mark,
-    /// A minus sign, if negative, and digits, the first one not 0. A variable above the greatest one only says that.
+    /// A minus sign, if negative, and digits, the first one not 0. A variable above the greatest
+    /// one only says that.
     Number { negative: bool, variable: u32 },
     /// `p`
     P,

@@ -14,7 +14,9 @@ fn position_of(text: &[u8], byte: u8) -> Option<usize>
 pub fn cut_at(text: &[u8], byte: u8) -> Option<(&[u8], &[u8])>
     ensures { MatchOption result
         (slice_split (λ b. b == byte) text.now ≡ text.now ∷ [])
-        (λ parts. (slice_split (λ b. b == byte) text.now ≡ parts.0.now ∷ slice_split (λ b. b == byte) parts.1.now)
+        (λ parts.
+        (slice_split (λ b. b == byte) text.now
+        ≡ parts.0.now ∷ slice_split (λ b. b == byte) parts.1.now)
         × (length parts.1.now < length text.now)) }
 {
     match position_of(text, byte) {

@@ -1,7 +1,8 @@
 //! Tokens of lines: decimal numbers, literals as DIMACS writes them, and where a text is cut.
 //!
-//! The layers above use the definitions in `specs/`: which tokens write a number or a literal, and what
-//! the literals up to a `0` are; what is printed here is read back. This crate knows no line and no text.
+//! The layers above use the definitions in `specs/`: which tokens write a number or a literal, and
+//! what the literals up to a `0` are; what is printed here is read back. This crate knows no line
+//! and no text.
 #![tactic(auto)]
 
 mod cuts;

@@ -8,13 +8,16 @@ use crate::{cut_at, read_lit};
 use sat_base::Lit;
 use std::alloc::{AllocError, Global};
 
-/// The literals before the first token `0`, and what stands behind it, one token at least. `None` where
-/// another token stands before it.
+/// The literals before the first token `0`, and what stands behind it, one token at least. `None`
+/// where another token stands before it.
 pub fn lits_before_zero(
     alloc: Global,
     tokens: &[u8],
 ) -> Result<Option<(Vec<Lit>, &[u8])>, AllocError>
-    ensures { IfOk result (λ found. option_map (λ part. record { items = part.0.items; rest = tokens_of part.1.now }) found ≡ until_zero lit_of (tokens_of tokens.now)) }
+    ensures { IfOk result
+        (λ found. option_map
+        (λ part. record { items = part.0.items; rest = tokens_of part.1.now }) found
+        ≡ until_zero lit_of (tokens_of tokens.now)) }
 {
     let mut lits = Vec::new(alloc);
     let mut rest = tokens;
@@ -31,9 +34,12 @@ pub fn lits_before_zero(
     Ok(None)
 }
 
-/// The literals of tokens of which the last one is `0`. `None` where another token stands among them.
+/// The literals of tokens of which the last one is `0`. `None` where another token stands among
+/// them.
 pub fn lits_then_zero(alloc: Global, tokens: &[u8]) -> Result<Option<Vec<Lit>>, AllocError>
-    ensures { IfOk result (λ found. option_map (λ lits. lits.items) found ≡ all_then_zero lit_of (tokens_of tokens.now)) }
+    ensures { IfOk result
+        (λ found. option_map (λ lits. lits.items) found
+        ≡ all_then_zero lit_of (tokens_of tokens.now)) }
 {
     let mut lits = Vec::new(alloc);
     let mut rest = tokens;

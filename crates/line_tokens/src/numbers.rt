@@ -12,8 +12,8 @@ const LEAST: u128 = 1;
 
 const GREATEST: u128 = 18_446_744_073_709_551_615;
 
-/// The number that decimal digits write: no leading zero, from 1 to 18446744073709551615. However many
-/// digits there are, their number is given up once it is too large.
+/// The number that decimal digits write: no leading zero, from 1 to 18446744073709551615. However
+/// many digits there are, their number is given up once it is too large.
 pub fn read_number(digits: &[u8]) -> Option<u64>
     ensures value { result ≡ number_of digits.now }
     ensures range { IfSome result (λ number. 0 < number) }

@@ -1,6 +1,7 @@
 -- What a look at a clause finds.
 use Rattle.std.specs.Prelude.{◌≡◌, ◌≢◌, ℕ, ◌<◌, List, Option, None, Some, slice_index}
-use Rattle.trail_core.specs.UnderTrail.{IsFalseLit, IsUnassigned, IsFalseClause, IsUnitClause, IsOpenClause}
+use Rattle.trail_core.specs.UnderTrail.{IsFalseLit, IsUnassigned, IsFalseClause, IsUnitClause}
+use Rattle.trail_core.specs.UnderTrail.{IsOpenClause}
 use Rattle.propagate.specs.declared.scan.Judgement.{Judgement}
 use Rattle.propagate.specs.declared.scan.Judgement.TheVariants.{False, Unit as IsUnit, Open}
 

@@ -3,7 +3,8 @@ use Rattle.std.specs.Prelude.{◌≡◌, ℕ, ◌<◌, ◌≤◌, List, length, 
 use Rattle.sat_base.specs.Lit.{variable}
 use Rattle.clause_arena.specs.Arena.{ArenaClause, clause_at}
 
--- the clauses, the numbers of those that are new to propagation, and how many variables are reserved: 1 to that number
+-- the clauses, the numbers of those that are new to propagation, and how many variables are
+-- reserved: 1 to that number
 pub record StoreView : Type 0 where
   pub clauses : List ArenaClause
   pub fresh : List ℕ

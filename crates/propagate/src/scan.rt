@@ -14,8 +14,8 @@ use clause_arena::Arena;
 use sat_base::Lit;
 use trail_core::{Trail, Truth};
 
-/// Assigns what the clauses force, at the trail's depth, until no clause is unit or one is false: then the
-/// answer is its number. Takes no memory.
+/// Assigns what the clauses force, at the trail's depth, until no clause is unit or one is false:
+/// then the answer is its number. Takes no memory.
 pub fn propagate(store: &mut Store, trail: &mut Trail) -> Option<usize>
     requires clauses { AreAllWithin trail.old.vars store.old.clauses }
     requires trail { All (λ entry. variable entry.lit ≤ store.old.vars) trail.old.entries }
@@ -27,12 +27,16 @@ pub fn propagate(store: &mut Store, trail: &mut Trail) -> Option<usize>
     ensures depth { trail.new.depth ≡ trail.old.depth }
 
     // The trail grows by literals that are forced.
-    ensures grown { HasGrown (lits_of_each store.new.clauses) trail.old.depth trail.old.entries trail.new.entries }
-    ensures founded { IsFounded (lits_of_each store.old.clauses) trail.old.entries trail.old.depth → IsFounded (lits_of_each store.new.clauses) trail.new.entries trail.old.depth }
+    ensures grown { HasGrown
+        (lits_of_each store.new.clauses) trail.old.depth trail.old.entries trail.new.entries }
+    ensures founded { IsFounded (lits_of_each store.old.clauses) trail.old.entries trail.old.depth
+        → IsFounded (lits_of_each store.new.clauses) trail.new.entries trail.old.depth }
 
     ensures known { IfSome result (λ id. id < length store.new.clauses) }
-    ensures refuted { IfSome result (λ id. IsFalseClause (lits_of trail.new.entries) (clause_at store.new.clauses id).lits) }
-    ensures complete { IfNone result (IsComplete trail.new.entries trail.new.depth (lits_of_each store.new.clauses)) }
+    ensures refuted { IfSome result
+        (λ id. IsFalseClause (lits_of trail.new.entries) (clause_at store.new.clauses id).lits) }
+    ensures complete { IfNone result
+        (IsComplete trail.new.entries trail.new.depth (lits_of_each store.new.clauses)) }
     ensures fresh { IfNone result (store.new.fresh ≡ []) }
 {
     complete(&store.arena, trail)
@@ -43,10 +47,13 @@ fn complete(arena: &Arena, trail: &mut Trail) -> Option<usize>
     requires { AreAllWithin trail.old.vars arena.now }
     ensures vars { trail.new.vars ≡ trail.old.vars }
     ensures depth { trail.new.depth ≡ trail.old.depth }
-    ensures grown { HasGrown (lits_of_each arena.now) trail.old.depth trail.old.entries trail.new.entries }
-    ensures founded { IsFounded (lits_of_each arena.now) trail.old.entries trail.old.depth → IsFounded (lits_of_each arena.now) trail.new.entries trail.old.depth }
+    ensures grown { HasGrown
+        (lits_of_each arena.now) trail.old.depth trail.old.entries trail.new.entries }
+    ensures founded { IsFounded (lits_of_each arena.now) trail.old.entries trail.old.depth
+        → IsFounded (lits_of_each arena.now) trail.new.entries trail.old.depth }
     ensures refuted { IfSome result (IsRefuted arena.now trail.new.entries) }
-    ensures complete { IfNone result (IsComplete trail.new.entries trail.new.depth (lits_of_each arena.now)) }
+    ensures complete { IfNone result
+        (IsComplete trail.new.entries trail.new.depth (lits_of_each arena.now)) }
 {
     loop {
         match pass(arena, trail) {
@@ -73,8 +80,10 @@ fn pass(arena: &Arena, trail: &mut Trail) -> Progress
     ensures vars { trail.new.vars ≡ trail.old.vars }
     ensures depth { trail.new.depth ≡ trail.old.depth }
     ensures trail { IsTrail trail.new }
-    ensures grown { HasGrown (lits_of_each arena.now) trail.old.depth trail.old.entries trail.new.entries }
-    ensures founded { IsFounded (lits_of_each arena.now) trail.old.entries trail.old.depth → IsFounded (lits_of_each arena.now) trail.new.entries trail.old.depth }
+    ensures grown { HasGrown
+        (lits_of_each arena.now) trail.old.depth trail.old.entries trail.new.entries }
+    ensures founded { IsFounded (lits_of_each arena.now) trail.old.entries trail.old.depth
+        → IsFounded (lits_of_each arena.now) trail.new.entries trail.old.depth }
     ensures passed { HasCome arena.now trail.old.entries trail.new.entries result }
 {
     let before = trail.lits().len();
@@ -176,7 +185,8 @@ mod tests {
         propagate(store, trail)
     }
 
-    // Three pigeons in two holes: no clause forces anything, and each first decision ends in a false clause.
+    // Three pigeons in two holes: no clause forces anything, and each first decision ends in a
+    // false clause.
     #[test]
     fn pigeons_conflict_after_one_decision(rt: HostRuntime) -> Result<(), Fail> {
         let alloc = rt.alloc();

@@ -1,6 +1,7 @@
 //! A store of clauses.
 
-ghost use Rattle.std.specs.Prelude.{◌≡◌, ◌+◌, ◌<◌, ◌≤◌, nat_lt, max, [], ◌∷◌, ◌++◌, length, take, IfOk, OnOk, OnErr};
+ghost use Rattle.std.specs.Prelude.{◌≡◌, ◌+◌, ◌<◌, ◌≤◌, nat_lt, max, [], ◌∷◌, ◌++◌, length, take};
+ghost use Rattle.std.specs.Prelude.{IfOk, OnOk, OnErr};
 ghost use Rattle.std.specs.List.{filter};
 ghost use Rattle.propagate.specs.Store.{AreWithin, AreAllWithin};
 
@@ -9,8 +10,8 @@ use sat_base::{Clause, Ref};
 use std::alloc::{AllocError, Global};
 use std::marker::Model;
 
-/// An arena of clauses with what propagation needs to find them. Contracts see a store as its clauses, the
-/// numbers of those that are new to propagation, and how many variables are reserved.
+/// An arena of clauses with what propagation needs to find them. Contracts see a store as its
+/// clauses, the numbers of those that are new to propagation, and how many variables are reserved.
 #[derive(Debug, Drop)]
 pub struct Store {
     pub(crate) arena: Arena,
@@ -57,15 +58,17 @@ impl Store {
     pub fn add(&mut self, clause: &Clause, tag: u32, origin: Ref) -> Result<usize, AllocError>
         requires { AreWithin self.old.vars clause.now }
         ensures number { IfOk result (λ id. id ≡ length self.old.clauses) }
-        ensures ok { OnOk result (self.new.clauses ≡ self.old.clauses ++ record { lits = clause.now; tag = tag; origin = origin } ∷ []) }
+        ensures ok { OnOk result
+            (self.new.clauses
+            ≡ self.old.clauses ++ record { lits = clause.now; tag = tag; origin = origin } ∷ []) }
         ensures vars { self.new.vars ≡ self.old.vars }
         ensures err { OnErr result (self.new ≡ self.old) }
     {
         self.arena.add(clause, tag, origin)
     }
 
-    /// Takes back the clauses behind the first `len`. Where there are no more than that, nothing changes.
-    /// Takes no memory.
+    /// Takes back the clauses behind the first `len`. Where there are no more than that, nothing
+    /// changes. Takes no memory.
     pub fn truncate(&mut self, len: usize)
         ensures clauses { self.new.clauses ≡ take len self.old.clauses }
         ensures fresh { self.new.fresh ≡ filter (λ id. nat_lt id len) self.old.fresh }

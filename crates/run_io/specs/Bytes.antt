@@ -1,5 +1,6 @@
 -- The bytes of a source or a sink, where the object tells them.
-use Rattle.std.specs.Prelude.{◌≡◌, List, [], ◌++◌, ℕ, Option, Some, None, Bool, false, Result, Ok, Err, nat_lt, nat_eq, ◌&&◌, IfSome}
+use Rattle.std.specs.Prelude.{◌≡◌, List, [], ◌++◌, ℕ, Option, Some, None, Bool, false, Result, Ok}
+use Rattle.std.specs.Prelude.{Err, nat_lt, nat_eq, ◌&&◌, IfSome}
 
 -- these bytes first, and then the rest
 abbrev pub followed_by : List ℕ → Option (List ℕ) → Option (List ℕ)

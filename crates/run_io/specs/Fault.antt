@@ -9,8 +9,8 @@ last_count = 18446744073709551615
 abbrev pub one_more : ℕ → ℕ
 one_more count = min (count + 1) last_count
 
--- A call fails only where its object's count of faults rose in the call or stands at its last number,
--- and a call that succeeds leaves the count.
+-- A call fails only where its object's count of faults rose in the call or stands at its last
+-- number, and a call that succeeds leaves the count.
 pub record HasCause {T E : Type 0} (before now : ℕ) (result : Result T E) : Type 0 where
   pub later : before ≤ now
   pub ok : OnOk result (now ≡ before)

@@ -11,15 +11,20 @@ pub record SinkState : Type 0 where
 
 -- A write of this piece fails: by plan, or since there is something to write and no room.
 abbrev pub WriteFails : SinkState → List ℕ → Type 0
-WriteFails sink piece = NextFails sink.script ⊎ ((0 < length piece) × (sink.room ≤ length sink.taken))
+WriteFails sink piece = NextFails sink.script
+    ⊎ ((0 < length piece) × (sink.room ≤ length sink.taken))
 
--- how many bytes of a piece of this length a write takes; the most for one write counts as 1 where it is 0
+-- how many bytes of a piece of this length a write takes; the most for one write counts as 1 where
+-- it is 0
 abbrev pub write_count : SinkState → ℕ → ℕ
 write_count sink size = min (min size (max sink.most 1)) (sink.room - length sink.taken)
 
 -- after a write that took these bytes
 abbrev pub after_write : SinkState → List ℕ → SinkState
-after_write sink bytes = record sink { taken = sink.taken ++ bytes; script = after_answer sink.script }
+after_write sink bytes = record sink {
+  taken = sink.taken ++ bytes;
+  script = after_answer sink.script;
+}
 
 -- after a flush
 abbrev pub after_flush : SinkState → SinkState

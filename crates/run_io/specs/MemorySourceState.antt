@@ -3,14 +3,16 @@ use Rattle.std.specs.Prelude.{List, [], ◌∷◌, ℕ, Bool, ◌||◌, length, 
 use Rattle.run_io.specs.Bytes.{is_end_at}
 use Rattle.run_io.specs.Script.{ScriptState, after_answer, after_fault}
 
--- the bytes still to come, the sizes of the next reads, the planned faults, and whether a read has found the end
+-- the bytes still to come, the sizes of the next reads, the planned faults, and whether a read has
+-- found the end
 pub record SourceState : Type 0 where
   pub left : List ℕ
   pub cuts : List ℕ
   pub script : ScriptState
   pub ended : Bool
 
--- The most that a read into this much room gives: what the next cut says, where 0 counts as 1, and what fits.
+-- The most that a read into this much room gives: what the next cut says, where 0 counts as 1, and
+-- what fits.
 abbrev pub most_by_cut : List ℕ → ℕ → ℕ
 most_by_cut [] room = room
 most_by_cut (cut ∷ cuts) room = min (max cut 1) room

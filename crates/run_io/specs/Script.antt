@@ -21,4 +21,7 @@ after_answer script = record script { calls = one_more script.calls }
 
 -- after a call that failed
 abbrev pub after_fault : ScriptState → ScriptState
-after_fault script = record script { calls = one_more script.calls; faults = one_more script.faults }
+after_fault script = record script {
+  calls = one_more script.calls;
+  faults = one_more script.faults;
+}

@@ -1,7 +1,8 @@
 //! Where bytes come from and where they go: sources and sinks whose failed calls are counted.
-//! The layer above uses the clauses of `Source` and `Sink`, which speak of a source's bytes still to come, its count of
-//! faults and whether it has ended, and of a sink's bytes taken and its count of faults; and that of `write_all`.
-//! Nothing here knows what the bytes say: no format, no job, no verdict.
+//! The layer above uses the clauses of `Source` and `Sink`, which speak of a source's bytes still
+//! to come, its count of faults and whether it has ended, and of a sink's bytes taken and its count
+//! of faults; and that of `write_all`. Nothing here knows what the bytes say: no format, no job, no
+//! verdict.
 #![tactic(auto)]
 
 mod memory_sink;

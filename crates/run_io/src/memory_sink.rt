@@ -2,7 +2,8 @@
 ghost use Rattle.std.specs.Prelude.{◌≡◌, ◌<◌, ◌≤◌, ◌↔◌, [], IfOk, IsErr, OnErr, OnOk, length, take};
 ghost use Rattle.run_io.specs.Bytes.{appended};
 ghost use Rattle.run_io.specs.Fault.{HasCause};
-ghost use Rattle.run_io.specs.MemorySinkState.{WriteFails, write_count, after_write, after_flush, after_sink_fault};
+ghost use Rattle.run_io.specs.MemorySinkState.{WriteFails, write_count, after_write, after_flush};
+ghost use Rattle.run_io.specs.MemorySinkState.{after_sink_fault};
 ghost use Rattle.run_io.specs.Script.{new_script, NextFails};
 
 use crate::script::Script;
@@ -10,8 +11,8 @@ use crate::{Failed, Sink};
 use std::alloc::{AllocError, Global};
 use std::marker::Model;
 
-/// A sink that keeps what it takes, up to a fixed room, and fails at planned calls. Its room is there from the
-/// start, so that no write takes memory.
+/// A sink that keeps what it takes, up to a fixed room, and fails at planned calls. Its room is
+/// there from the start, so that no write takes memory.
 #[derive(Drop)]
 pub struct MemorySink {
     bytes: Vec<u8>,
@@ -37,9 +38,9 @@ impl Model for MemorySink {
 }
 
 impl MemorySink {
-    /// Takes at most `most` bytes at a write (0 counts as 1) and `room` bytes in all; a write of a piece that isn't
-    /// empty fails where the room is used up. The calls of `write` and `flush` are numbered from 1, and those in
-    /// `fail` fail.
+    /// Takes at most `most` bytes at a write (0 counts as 1) and `room` bytes in all; a write of a
+    /// piece that isn't empty fails where the room is used up. The calls of `write` and `flush` are
+    /// numbered from 1, and those in `fail` fail.
     ///
     /// # Errors
     ///

@@ -1,9 +1,11 @@
 //! A source over bytes in memory.
-ghost use Rattle.std.specs.Prelude.{◌≡◌, ◌<◌, ◌≤◌, ◌||◌, ◌++◌, ◌↔◌, false, IfOk, IsErr, OnErr, OnOk, length, take, drop, min};
+ghost use Rattle.std.specs.Prelude.{◌≡◌, ◌<◌, ◌≤◌, ◌||◌, ◌++◌, ◌↔◌, false, IfOk, IsErr, OnErr};
+ghost use Rattle.std.specs.Prelude.{OnOk, length, take, drop, min};
 ghost use Rattle.std.specs.Vec.Iter.{into_iter_items};
 ghost use Rattle.run_io.specs.Bytes.{followed_by, is_end, IsEmptyWhereTold};
 ghost use Rattle.run_io.specs.Fault.{HasCause};
-ghost use Rattle.run_io.specs.MemorySourceState.{most_by_cut, read_count, after_read, after_start, after_source_fault};
+ghost use Rattle.run_io.specs.MemorySourceState.{most_by_cut, read_count, after_read, after_start};
+ghost use Rattle.run_io.specs.MemorySourceState.{after_source_fault};
 ghost use Rattle.run_io.specs.Script.{new_script, NextFails};
 
 use crate::pieces::finds_end;
@@ -12,8 +14,8 @@ use crate::{Failed, Source};
 use std::marker::Model;
 use std::vec::IntoIter;
 
-/// A source that gives bytes in memory, in pieces of planned sizes, and fails at planned calls. It ignores the
-/// name that `start` is given.
+/// A source that gives bytes in memory, in pieces of planned sizes, and fails at planned calls. It
+/// ignores the name that `start` is given.
 #[derive(Drop)]
 pub struct MemorySource {
     bytes: Vec<u8>,
@@ -41,8 +43,9 @@ impl Model for MemorySource {
 }
 
 impl MemorySource {
-    /// Each read that doesn't fail gives at most the next of `cuts` (0 counts as 1), and as many bytes as fit
-    /// once there is none. The calls of `start` and `read` are numbered from 1; those in `fail` fail.
+    /// Each read that doesn't fail gives at most the next of `cuts` (0 counts as 1), and as many
+    /// bytes as fit once there is none. The calls of `start` and `read` are numbered from 1; those
+    /// in `fail` fail.
     pub fn new(bytes: Vec<u8>, cuts: Vec<usize>, fail: Vec<u64>) -> MemorySource
         ensures { result ≡ record {
           left = bytes.items;
@@ -117,7 +120,8 @@ fn most_by_next_cut(cuts: &mut IntoIter<usize>, room: usize) -> usize
     }
 }
 
-/// Copies the front of the bytes, at most so many, to the front of the buffer, and answers how many.
+/// Copies the front of the bytes, at most so many, to the front of the buffer, and answers how
+/// many.
 fn copy_front(bytes: &[u8], most: usize, buf: &mut [u8]) -> usize
     requires { most ≤ length buf.old }
     ensures count { result ≡ min most (length bytes.now) }

@@ -1,5 +1,6 @@
 //! The outside as the program sees it.
-ghost use Rattle.std.specs.Prelude.{◌≡◌, ◌<◌, ◌≤◌, ◌||◌, Bool, List, ℕ, Option, IfOk, OnErr, length, take};
+ghost use Rattle.std.specs.Prelude.{◌≡◌, ◌<◌, ◌≤◌, ◌||◌, Bool, List, ℕ, Option, IfOk, OnErr};
+ghost use Rattle.std.specs.Prelude.{length, take};
 ghost use Rattle.run_io.specs.Bytes.{appended, followed_by, is_end, IsEmptyWhereTold};
 ghost use Rattle.run_io.specs.Fault.{HasCause};
 
@@ -15,12 +16,12 @@ pub trait Source {
     /// The count of faults, which never falls.
     ghost faults: { Self → ℕ };
 
-    /// Whether a read of a buffer that isn't empty has answered `Ok(0)`. A new source isn't ended, and a source
-    /// that has ended stays so.
+    /// Whether a read of a buffer that isn't empty has answered `Ok(0)`. A new source isn't ended,
+    /// and a source that has ended stays so.
     ghost ended: { Self → Bool };
 
-    /// Makes the source ready to be read. With a name it is the file of that name, without one standard input;
-    /// a source that has one input alone may ignore the name.
+    /// Makes the source ready to be read. With a name it is the file of that name, without one
+    /// standard input; a source that has one input alone may ignore the name.
     ///
     /// # Errors
     ///
@@ -30,16 +31,18 @@ pub trait Source {
         ensures ended { ended self.new ≡ ended self.old }
         ensures cause { HasCause (faults self.old) (faults self.new) result };
 
-    /// Puts the next bytes at the front of the buffer and answers how many, 0 to the buffer's length.
-    /// `Ok(0)` for a buffer that isn't empty is the end.
+    /// Puts the next bytes at the front of the buffer and answers how many, 0 to the buffer's
+    /// length. `Ok(0)` for a buffer that isn't empty is the end.
     ///
     /// # Errors
     ///
     /// `Failed` where the read failed; nothing is taken, and the fault is counted.
     fn read(&mut self, buf: &mut [u8]) -> Result<usize, Failed>
         ensures count { IfOk result (λ n. n ≤ length buf.old) }
-        ensures bytes { IfOk result (λ n. left self.old ≡ followed_by (take n buf.new) (left self.new)) }
-        ensures end { IfOk result (λ n. n ≡ 0 → 0 < length buf.old → IsEmptyWhereTold (left self.new)) }
+        ensures bytes { IfOk result
+            (λ n. left self.old ≡ followed_by (take n buf.new) (left self.new)) }
+        ensures end { IfOk result
+            (λ n. n ≡ 0 → 0 < length buf.old → IsEmptyWhereTold (left self.new)) }
         ensures ended { ended self.new ≡ (ended self.old || is_end result (length buf.old)) }
         ensures err { OnErr result (left self.new ≡ left self.old) }
         ensures cause { HasCause (faults self.old) (faults self.new) result };
@@ -53,7 +56,8 @@ pub trait Sink {
     /// The count of faults, which never falls.
     ghost faults: { Self → ℕ };
 
-    /// Takes some bytes from the front of the piece and answers how many: at least 1 where the piece isn't empty.
+    /// Takes some bytes from the front of the piece and answers how many: at least 1 where the
+    /// piece isn't empty.
     ///
     /// # Errors
     ///
@@ -61,7 +65,8 @@ pub trait Sink {
     fn write(&mut self, piece: &[u8]) -> Result<usize, Failed>
         ensures count { IfOk result (λ n. n ≤ length piece.now) }
         ensures some { IfOk result (λ n. 0 < length piece.now → 0 < n) }
-        ensures bytes { IfOk result (λ n. taken self.new ≡ appended (taken self.old) (take n piece.now)) }
+        ensures bytes { IfOk result
+            (λ n. taken self.new ≡ appended (taken self.old) (take n piece.now)) }
         ensures err { OnErr result (taken self.new ≡ taken self.old) }
         ensures cause { HasCause (faults self.old) (faults self.new) result };
 

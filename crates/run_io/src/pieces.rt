@@ -9,7 +9,8 @@ use crate::{Failed, Sink};
 ///
 /// # Errors
 ///
-/// `Failed` of the first write that failed. Nothing is written after it, so a proper front of the piece was taken.
+/// `Failed` of the first write that failed. Nothing is written after it, so a proper front of the
+/// piece was taken.
 pub fn write_all<O: Sink>(out: &mut O, piece: &[u8]) -> Result<(), Failed>
     ensures whole { OnOk result (O.taken out.new ≡ appended (O.taken out.old) piece.now) }
     ensures front { OnErr result ((n : ℕ) × (n < length piece.now)

@@ -8,9 +8,10 @@ use std::io;
 use std::io::Write;
 use std::marker::Model;
 
-/// A sink over standard output. Each write goes straight to the system, so a reader at the other end of a pipe sees a
-/// piece as soon as it is written. It tells no bytes, since nobody knows what becomes of them, and counts each fault
-/// that it answers; the count stands still at the last number of a `u64`. Contracts see it as that count.
+/// A sink over standard output. Each write goes straight to the system, so a reader at the other
+/// end of a pipe sees a piece as soon as it is written. It tells no bytes, since nobody knows what
+/// becomes of them, and counts each fault that it answers; the count stands still at the last
+/// number of a `u64`. Contracts see it as that count.
 #[derive(Drop)]
 pub struct StdSink<'a, P: Print> {
     rt: &'a P,

@@ -1,5 +1,6 @@
 //! A source over a named file or standard input.
-ghost use Rattle.std.specs.Prelude.{◌≡◌, ◌≤◌, ◌||◌, false, true, None, IfNone, IfOk, IsErr, IsOk, OnErr, OnOk, is_some, length};
+ghost use Rattle.std.specs.Prelude.{◌≡◌, ◌≤◌, ◌||◌, false, true, None, IfNone, IfOk, IsErr, IsOk};
+ghost use Rattle.std.specs.Prelude.{OnErr, OnOk, is_some, length};
 ghost use Rattle.run_io.specs.Bytes.{is_end};
 ghost use Rattle.run_io.specs.Fault.{one_more, HasCause};
 
@@ -11,8 +12,9 @@ use std::marker::Model;
 use std::rt::Files;
 use std::{fs, io};
 
-/// A source over a named file or standard input. It tells no bytes, since nobody knows what the system will give,
-/// and counts each fault that it answers; the count stands still at the last number of a `u64`.
+/// A source over a named file or standard input. It tells no bytes, since nobody knows what the
+/// system will give, and counts each fault that it answers; the count stands still at the last
+/// number of a `u64`.
 #[derive(Drop)]
 pub struct StdSource<'a, R: Files + Input> {
     rt: &'a R,
@@ -59,7 +61,8 @@ impl<'a, R: Files + Input> Source for StdSource<'a, R> {
 
     ghost ended = { λ s. s.ended };
 
-    /// Opens the file of that name, or standard input. What was open before is closed, also where this fails.
+    /// Opens the file of that name, or standard input. What was open before is closed, also where
+    /// this fails.
     fn start(&mut self, name: Option<&str>) -> Result<(), Failed>
         ensures ended { self.new.ended ≡ self.old.ended }
         ensures cause { HasCause self.old.faults self.new.faults result }

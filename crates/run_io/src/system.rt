@@ -30,8 +30,8 @@ pub(crate) fn read_some<R: Read>(reader: &mut R, buf: &mut [u8]) -> Result<usize
     Err(Failed)
 }
 
-/// One write, tried again where a signal interrupts it. One that takes nothing of a piece that isn't empty has
-/// failed.
+/// One write, tried again where a signal interrupts it. One that takes nothing of a piece that
+/// isn't empty has failed.
 pub(crate) fn write_some<W: Write>(writer: &mut W, piece: &[u8]) -> Result<usize, Failed>
     ensures count { IfOk result (λ n. n ≤ length piece.now) }
     ensures some { IfOk result (λ n. 0 < length piece.now → 0 < n) }

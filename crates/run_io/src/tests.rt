@@ -195,7 +195,8 @@ fn a_source_over_files_fails_where_the_system_does(rt: HostRuntime) {
     assert_eq!(rt; source.start(None), Ok(()));
 }
 
-/// Standard output that takes so many bytes, is interrupted at its second write, and fails from the fourth on.
+/// Standard output that takes so many bytes, is interrupted at its second write, and fails from the
+/// fourth on.
 #[derive(Drop)]
 struct Output {
     writes: Cell<u32>,

@@ -27,7 +27,8 @@ CubeContradictsItsNegation = (values : List Bool) (cube : List ℕ) →
 -- Truth of a clause depends on which literals it has, and not on their order.
 abbrev pub TruthSeesMembers : Type 0
 TruthSeesMembers = (values : List Bool) (clause other : List ℕ) →
-    All (Contains other) clause → IsTrue (clause_true values clause) → IsTrue (clause_true values other)
+    All (Contains other) clause → IsTrue (clause_true values clause)
+    → IsTrue (clause_true values other)
 
 -- No query has both a model and a refuted part, so two right solvers never disagree.
 abbrev pub OneAnswer : Type 0

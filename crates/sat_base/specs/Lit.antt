@@ -6,7 +6,8 @@ use Rattle.std.specs.Prelude.{Bool, true, ◌==◌, ◌&&◌, if◌then◌else�
 use Rattle.std.specs.Prelude.{List, [], ◌∷◌, All, Contains}
 use Rattle.sat_base.specs.Limits.{greatest_variable}
 
--- the code of a whole number with a sign: DIMACS writes v for a positive literal, -v for a negative one
+-- the code of a whole number with a sign: DIMACS writes v for a positive literal, -v for a negative
+-- one
 abbrev pub code_of : ℤ → ℕ
 code_of (pos v) = 2 * v
 code_of (negsuc n) = 2 * n + 3

@@ -5,8 +5,8 @@ ghost use Rattle.std.specs.Prelude.{◌≡◌, IfOk};
 use std::alloc::{AllocError, Global};
 use std::marker::Model;
 
-/// An assignment of truth values: variable v has item v, counted from 1, and is false beyond the list.
-/// Contracts see it as that list.
+/// An assignment of truth values: variable v has item v, counted from 1, and is false beyond the
+/// list. Contracts see it as that list.
 #[derive(Debug, Drop)]
 pub struct Assign {
     values: Vec<bool>,

@@ -13,8 +13,8 @@ use crate::{Assign, Lit};
 use std::alloc::{AllocError, Global};
 use std::marker::Model;
 
-/// A clause: a set of literals, of which one has to be true. Both literals of a variable may stand in it.
-/// Contracts see it as its literals in strictly ascending order.
+/// A clause: a set of literals, of which one has to be true. Both literals of a variable may stand
+/// in it. Contracts see it as its literals in strictly ascending order.
 #[derive(Debug, Drop)]
 pub struct Clause {
     lits: Vec<Lit>,
@@ -34,7 +34,8 @@ impl Model for Clause {
 impl Clause {
     /// The clause of exactly these literals, in any order and with any repeats.
     pub fn from_lits(alloc: Global, lits: &[Lit]) -> Result<Clause, AllocError>
-        ensures members { IfOk result (λ clause. (lit : ℕ) → Contains clause lit ↔ Contains lits.now lit) }
+        ensures members { IfOk result
+            (λ clause. (lit : ℕ) → Contains clause lit ↔ Contains lits.now lit) }
     {
         let lits = set_of(alloc, lits)?;
         Ok(Clause { lits })

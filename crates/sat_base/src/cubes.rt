@@ -13,8 +13,8 @@ use crate::{Assign, Clause, Lit};
 use std::alloc::{AllocError, Global};
 use std::marker::Model;
 
-/// A cube: a set of literals, all of which have to be true. Both literals of a variable may stand in it.
-/// Contracts see it as its literals in strictly ascending order.
+/// A cube: a set of literals, all of which have to be true. Both literals of a variable may stand
+/// in it. Contracts see it as its literals in strictly ascending order.
 #[derive(Debug, Drop)]
 pub struct Cube {
     lits: Vec<Lit>,
@@ -34,7 +34,8 @@ impl Model for Cube {
 impl Cube {
     /// The cube of exactly these literals, in any order and with any repeats.
     pub fn from_lits(alloc: Global, lits: &[Lit]) -> Result<Cube, AllocError>
-        ensures members { IfOk result (λ cube. (lit : ℕ) → Contains cube lit ↔ Contains lits.now lit) }
+        ensures members { IfOk result
+            (λ cube. (lit : ℕ) → Contains cube lit ↔ Contains lits.now lit) }
     {
         let lits = set_of(alloc, lits)?;
         Ok(Cube { lits })
@@ -67,7 +68,8 @@ impl Cube {
 
     /// The clause of exactly the negations of its literals, which is true where the cube is false.
     pub fn negated(&self, alloc: Global) -> Result<Clause, AllocError>
-        ensures members { IfOk result (λ clause. (lit : ℕ) → Contains clause lit ↔ Contains self.now (opposite lit)) }
+        ensures members { IfOk result
+            (λ clause. (lit : ℕ) → Contains clause lit ↔ Contains self.now (opposite lit)) }
     {
         let lits = negations(alloc, &self.lits)?;
         Clause::from_lits(alloc, &lits)

@@ -1,8 +1,8 @@
 //! Literals, clauses, cubes and assignments of propositional logic, with truth and entailment.
 //!
-//! The layers above use the definitions in `specs/`: when a clause is true under an assignment, when
-//! it follows from a list of clauses, and which answers to a query are right. This crate knows no text,
-//! no solver and no runtime.
+//! The layers above use the definitions in `specs/`: when a clause is true under an assignment,
+//! when it follows from a list of clauses, and which answers to a query are right. This crate knows
+//! no text, no solver and no runtime.
 #![tactic(auto)]
 
 mod assignments;

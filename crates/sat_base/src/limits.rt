@@ -1,5 +1,5 @@
-//! How large a problem may be. Contracts name the same numbers by `specs/Limits.antt`, or write their
-//! digits, which are equal to those names by computation.
+//! How large a problem may be. Contracts name the same numbers by `specs/Limits.antt`, or write
+//! their digits, which are equal to those names by computation.
 
 /// The greatest variable.
 pub const GREATEST_VARIABLE: u32 = 8_388_607;

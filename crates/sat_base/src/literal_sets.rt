@@ -19,7 +19,8 @@ pub(crate) fn look_at(lits: &[Lit])
 // The set of these literals, in ascending order.
 pub(crate) fn set_of(alloc: Global, lits: &[Lit]) -> Result<Vec<Lit>, AllocError>
     ensures set { IfOk result (λ set. IsLitSet set.items) }
-    ensures members { IfOk result (λ set. (lit : ℕ) → Contains set.items lit ↔ Contains lits.now lit) }
+    ensures members { IfOk result
+        (λ set. (lit : ℕ) → Contains set.items lit ↔ Contains lits.now lit) }
 {
     look_at(lits);
     let mut set = Vec::from_slice(alloc, lits)?;

@@ -8,9 +8,9 @@ ghost use Rattle.sat_base.specs.Truth.{lit_true};
 use crate::limits::GREATEST_VARIABLE;
 use std::marker::Model;
 
-/// A literal: a variable from 1 to 8,388,607 or its negation. Four bytes, by the code of MiniSat and
-/// AIGER: 2v for the positive literal of variable v, 2v + 1 for the negative one. Literals are ordered
-/// by code. Contracts see a literal as its code.
+/// A literal: a variable from 1 to 8,388,607 or its negation. Four bytes, by the code of MiniSat
+/// and AIGER: 2v for the positive literal of variable v, 2v + 1 for the negative one. Literals are
+/// ordered by code. Contracts see a literal as its code.
 #[derive(Clone, Copy, Debug, PartialEq, Eq, PartialOrd, Ord)]
 pub struct Lit {
     code: u32,

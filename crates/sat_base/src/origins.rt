@@ -1,7 +1,7 @@
 //! Names of known clauses.
 
-/// The name of a clause that a derivation may cite: an input clause, a step of a shared packet, or an own
-/// step. All numbers count from 1.
+/// The name of a clause that a derivation may cite: an input clause, a step of a shared packet, or
+/// an own step. All numbers count from 1.
 #[derive(Clone, Copy, Debug, PartialEq, Eq, PartialOrd, Ord)]
 pub enum Ref {
     /// The input clause of that number.

@@ -6,9 +6,9 @@ use Rattle.trace_core.specs.Known.{Known, item_at}
 use Rattle.trace_core.specs.Trace.{known_of}
 use Rattle.trace_core.specs.declared.derivation.Step.{Step}
 use Rattle.trace_trim.proofs.Found.{item_at-next}
-use Rattle.search_core.specs.Solver.{Solver, IsSound, IsStep}
-use Rattle.search_core.proofs.Lists.{item_at-map}
-use Rattle.session.proofs.Naming.{is_among}
+use Rattle.session.specs.Solver.{Solver, IsSound, IsStep}
+use Rattle.session.proofs.Lists.{item_at-map}
+use Rattle.session.proofs.Renamed.{is_among}
 
 -- the step of that number, as it is read
 pub step_read : (steps : List Step) (number : ℕ) (found : Step) → 1 ≤ number → number ≤ length steps → get_or steps (number - 1) found ≡ found → IsStep steps number (known_of found)

@@ -15,10 +15,10 @@ use Rattle.trace_trim.specs.Packed.{AreNamesRight, CiteEarlierOwn, name_of}
 use Rattle.trace_trim.proofs.Order.{item_at-within}
 use Rattle.trace_trim.proofs.OwnWalk.{item_at-there}
 use Rattle.trace_trim.proofs.Zips.{slice_get-place}
-use Rattle.search_core.specs.Solver.{Solver, shared_by, known_in, packet_at}
-use Rattle.search_core.specs.Searching.{IsFront}
-use Rattle.search_core.specs.Sharing.{HasPlaceMore, HasTaken}
-use Rattle.search_core.proofs.Lists.{item_at-map, item_at-more}
+use Rattle.session.specs.Solver.{Solver, shared_by, known_in, packet_at}
+use Rattle.session.specs.Fronts.{IsFront}
+use Rattle.session.specs.Sharing.{HasPlaceMore, HasTaken}
+use Rattle.session.proofs.Lists.{item_at-map, item_at-more}
 use Rattle.session.specs.Publishing.{AreNamesFit}
 
 -- each packet that is known stays known

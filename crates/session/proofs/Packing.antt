@@ -11,7 +11,7 @@ use Rattle.trace_core.specs.Trace.{known_of}
 use Rattle.trace_core.specs.declared.derivation.Step.{Step}
 use Rattle.trace_core.proofs.Soundness.{item_at-contains}
 use Rattle.trace_trim.specs.Packed.{IsOkWhereOwnAreOk, HasGreatestTagLast, AreOfOwn, ends_in}
-use Rattle.search_core.specs.Solver.{Solver, IsSound, IsStep, IsWithinItsTag, shared_by}
+use Rattle.session.specs.Solver.{Solver, IsSound, IsStep, IsWithinItsTag, shared_by}
 use Rattle.session.specs.Publishing.{AreNamesFit, IsSharable}
 
 same_step : (solver : Solver) (step : ℕ) (one other : Known) → IsStep solver.steps step one → IsStep solver.steps step other → one ≡ other

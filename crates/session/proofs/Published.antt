@@ -19,9 +19,9 @@ use Rattle.trace_trim.specs.Reached.{IsReached}
 use Rattle.trace_trim.proofs.Order.{item_at-within}
 use Rattle.trace_trim.proofs.OwnWalk.{unnamed-own}
 use Rattle.trace_trim.proofs.Zips.{zip_item}
-use Rattle.search_core.specs.Solver.{Solver, shared_by, packet_at}
-use Rattle.search_core.specs.Sharing.{Knows}
-use Rattle.search_core.proofs.Lists.{item_at-map}
+use Rattle.session.specs.Solver.{Solver, shared_by, packet_at}
+use Rattle.session.specs.Sharing.{Knows}
+use Rattle.session.proofs.Lists.{item_at-map}
 use Rattle.session.specs.Publishing.{AreNamesFit, AreNamedAnew}
 use Rattle.session.proofs.Names.{shared_at, names_fit_more, place_keeps, same_front}
 

@@ -7,9 +7,9 @@ use Rattle.sat_base.specs.declared.origins.Ref.TheVariants.{Input}
 use Rattle.trace_core.specs.Known.{Known}
 use Rattle.trace_core.specs.Law.{clauses_up_to}
 use Rattle.trace_core.specs.declared.derivation.Step.{Step}
-use Rattle.search_core.specs.Solver.{Solver, clauses_of}
-use Rattle.search_core.specs.Loading.{loaded}
-use Rattle.search_core.specs.Sharing.{IsTakable}
+use Rattle.session.specs.Solver.{Solver, clauses_of}
+use Rattle.session.specs.Loading.{loaded}
+use Rattle.session.specs.Sharing.{IsTakable}
 use Rattle.session.specs.Session.{no_inputs}
 
 -- what one session may take in, another over the same inputs may

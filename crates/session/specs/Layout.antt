@@ -1,6 +1,6 @@
 -- How a session keeps its solver.
 use Rattle.std.specs.Prelude.{◌≡◌, ℕ, List}
-use Rattle.search_core.specs.Searching.{IsSearching, solver_of}
+use Rattle.session.specs.Searching.{IsSearching, solver_of}
 use Rattle.session.specs.declared.session.Session.TheInside.{Inside}
 use Rattle.session.specs.Session.{SessionView}
 use Rattle.session.specs.Publishing.{AreNamesFit}

@@ -8,8 +8,8 @@ use Rattle.trace_core.specs.Law.{clauses_up_to}
 use Rattle.trace_core.specs.Trace.{AreOkSteps}
 use Rattle.trace_core.specs.declared.derivation.Step.{Step}
 use Rattle.trace_trim.specs.Packed.{AreNamesRight, AreNumbersPacked, AreOfOwn, ends_in, name_of}
-use Rattle.search_core.specs.Solver.{Solver, shared_by}
-use Rattle.search_core.specs.Sharing.{Knows}
+use Rattle.session.specs.Solver.{Solver, shared_by}
+use Rattle.session.specs.Sharing.{Knows}
 use Rattle.session.specs.Session.{SessionView}
 
 -- Only own steps have names, and each name is that of a step of a known packet, which has the own step's clause and tag.

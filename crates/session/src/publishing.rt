@@ -5,12 +5,12 @@ ghost use Rattle.std.specs.Arc.{arc_value};
 ghost use Rattle.sat_base.specs.Lit.{IsTautology};
 ghost use Rattle.trace_core.specs.Known.{Known};
 ghost use Rattle.trace_trim.specs.Packed.{IsPack};
-ghost use Rattle.search_core.specs.Solver.{IsStep, packet_at};
+ghost use Rattle.session.specs.Solver.{IsStep, packet_at};
 ghost use Rattle.session.specs.Publishing.{AreNamedAnew, IsSharable, Publishes};
 
 use crate::session::Session;
+use crate::sharing::know;
 use sat_base::{Cube, Ref};
-use search_core::know;
 use std::alloc::{AllocError, Global};
 use std::sync::Arc;
 use trace_core::Packet;

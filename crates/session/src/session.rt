@@ -3,15 +3,20 @@
 ghost use Rattle.std.specs.Prelude.{◌≡◌, ◌+◌, ◌<◌, ◌≤◌, [], None, length, is_some, IfOk, OnOk, OnErr};
 ghost use Rattle.std.specs.Arc.{arc_value};
 ghost use Rattle.trace_core.specs.Known.{Known};
-ghost use Rattle.search_core.specs.Solver.{IsSound, packet_at};
-ghost use Rattle.search_core.specs.Loading.{loaded};
-ghost use Rattle.search_core.specs.Sharing.{IsTakable, HasTaken};
-ghost use Rattle.search_core.specs.Solving.{Keeps, Solves};
-ghost use Rattle.search_core.specs.Answering.{Answers};
+ghost use Rattle.session.specs.Solver.{IsSound, packet_at};
+ghost use Rattle.session.specs.Loading.{loaded};
+ghost use Rattle.session.specs.Sharing.{IsTakable, HasTaken};
+ghost use Rattle.session.specs.Solving.{Keeps, Solves};
+ghost use Rattle.session.specs.Answering.{Answers};
 ghost use Rattle.session.specs.Session.{no_inputs};
 
+use crate::answering::{Conclusion, solve_until_answered};
+use crate::inputs::load;
+use crate::rounds::Round;
+use crate::search::Search;
+use crate::sharing::take_in;
+use crate::solving::solve;
 use sat_base::{Clause, Cube, Ref};
-use search_core::{Answer, Round, Search, load, solve, solve_until_answered, take_in};
 use std::alloc::{AllocError, Global};
 use std::marker::Model;
 use std::sync::Arc;
@@ -95,7 +100,11 @@ impl Session {
 
     /// Rounds of `limit` learnt clauses until the cube has its answer. It comes to an end, since no clause is learnt
     /// twice.
-    pub fn solve_until_answered(&mut self, cube: &Cube, limit: u64) -> Result<Answer, AllocError>
+    pub fn solve_until_answered(
+        &mut self,
+        cube: &Cube,
+        limit: u64,
+    ) -> Result<Conclusion, AllocError>
         requires some { 0 < limit }
         ensures answer { IfOk result (Answers self.old.solver self.new.solver cube.now) }
         ensures keeps { Keeps self.old.solver self.new.solver }

@@ -5,14 +5,13 @@ ghost use Rattle.std.specs.Arc.{arc_value};
 ghost use Rattle.sat_base.specs.Lit.{IsTautology, code_of};
 ghost use Rattle.sat_base.specs.declared.origins.Ref.TheVariants.{Input};
 ghost use Rattle.trace_core.specs.Known.{Known};
-ghost use Rattle.search_core.specs.Solver.{IsSound, IsStep};
-ghost use Rattle.search_core.specs.Loading.{loaded, tagged};
-ghost use Rattle.search_core.specs.Sharing.{IsTakable};
+ghost use Rattle.session.specs.Solver.{IsSound, IsStep};
+ghost use Rattle.session.specs.Loading.{loaded, tagged};
+ghost use Rattle.session.specs.Sharing.{IsTakable};
 ghost use Rattle.session.specs.Session.{no_inputs};
 
-use crate::Session;
+use crate::{Conclusion, Round, Session};
 use sat_base::{Clause, Cube, Lit, Ref};
-use search_core::{Answer, Round};
 use std::alloc::{AllocError, Global};
 use std::process::Abort;
 use std::sync::Arc;
@@ -68,7 +67,7 @@ fn a_part_is_refuted_and_the_session_goes_on(rt: HostRuntime) -> Result<(), Fail
     }
     let free = cube(alloc, &rt, &[])?;
     match session.solve_until_answered(&free, 256)? {
-        Answer::Model(model) => {
+        Conclusion::Model(model) => {
             assert_eq!(rt; model.values().len(), 2);
             assert!(rt; model.values()[0]);
             assert!(rt; model.values()[1]);
@@ -170,6 +169,38 @@ fn paused(alloc: Global, rt: &impl Abort, clauses: &[Clause]) -> Result<Session,
         Round::Paused => Ok(session),
         _ => panic!(rt; "not paused"),
     }
+}
+
+#[test]
+fn the_least_free_variable_becomes_false(rt: HostRuntime) -> Result<(), Fail> {
+    let alloc = rt.alloc();
+    let clauses = [clause(alloc, &rt, &[1, 2])?];
+    let given = cube(alloc, &rt, &[4])?;
+    let mut session = start(alloc, &rt, &clauses, &given)?;
+    match session.solve(&given, 1)? {
+        Round::Model(model) => {
+            assert_eq!(rt; model.values(), [false, true, false, true].as_slice());
+        }
+        _ => panic!(rt; "no model"),
+    }
+    Ok(())
+}
+
+#[test]
+fn pigeons_are_refuted_after_a_pause(rt: HostRuntime) -> Result<(), Fail> {
+    let alloc = rt.alloc();
+    let clauses = pigeons(alloc, &rt)?;
+    let mut session = paused(alloc, &rt, clauses.as_slice())?;
+    assert_eq!(rt; session.learnt().len(), 1);
+    let free = cube(alloc, &rt, &[])?;
+    match session.solve(&free, 100)? {
+        Round::Refuted(part, number) => {
+            assert_eq!(rt; part.lits().len(), 0);
+            assert_eq!(rt; number, session.steps().len() as u64);
+        }
+        _ => panic!(rt; "not refuted"),
+    }
+    Ok(())
 }
 
 // The number of the first learnt step.

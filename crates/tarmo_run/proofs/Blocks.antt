@@ -15,7 +15,7 @@ use Rattle.entry_core.specs.declared.answers.Verdict.TheVariants as verdict
 use Rattle.entry_core.specs.declared.entries.Entry.{Entry}
 use Rattle.entry_core.specs.declared.rules.Rules.{Rules}
 use Rattle.entry_core.specs.declared.segments.Segment.{Segment}
-use Rattle.entry_core.specs.Causes.{HasCause}
+use Rattle.entry_core.specs.Causes.{HasCause as HasItsCause}
 use Rattle.entry_core.specs.Journal.{clauses_of, cube_in, cube_of, inputs, inputs_of, jobs, segments, tagged_from}
 use Rattle.entry_core.specs.Law.{VerdictsHaveCauses}
 use Rattle.entry_core.specs.Legal.{IsLegal}
@@ -26,12 +26,11 @@ use Rattle.board_core.specs.Replies.{HasVerdict, IsSame}
 use Rattle.board_core.specs.State.{State}
 use Rattle.verdict_text.specs.Block.{IsBlock, IsPrintable, shown_of, shown_of_answer}
 use Rattle.verdict_text.specs.declared.blocks.Shown.{Shown}
-use Rattle.tarmo_run.specs.declared.desk.Desk.{Desk}
 use Rattle.tarmo_run.specs.Block.{AreBlocks, IsBlockOf}
-use Rattle.tarmo_run.specs.Desk.{clauses_behind, clauses_read}
-use Rattle.tarmo_run.specs.Written.{TookBlocks, TookFront}
+use Rattle.tarmo_run.specs.Client.{AreWithinVariables, clauses_behind, clauses_on}
+use Rattle.tarmo_run.specs.Writer.{TookBlocks, TookFront}
 use Rattle.tarmo_run.proofs.Cited.{ok_cite_earlier}
-use Rattle.tarmo_run.proofs.Desks.{within_set}
+use Rattle.tarmo_run.proofs.Variables.{within_set}
 
 -- how many inputs the next job has
 pub inputs_counted : (journal : List Entry) (written job count : ℕ) (segment : Segment) → job ≡ written + 1 → item_at (segments journal) job ≡ Some segment → count ≡ length (inputs_of journal written)
@@ -78,17 +77,13 @@ all_clauses clauses job (segment ∷ list) =
     ∙ ap (λ (first : List (List ℕ)). clauses ++ (first ++ map (λ (one : Known). one.clause) (tagged_from (suc job) list))) (sym (tagged_clauses job segment.clauses))
     ∙ ap (λ (all : List (List ℕ)). clauses ++ all) (sym (map-append (λ (one : Known). one.clause) (map (λ (clause : List ℕ). record { clause = clause; tag = job }) segment.clauses) (tagged_from (suc job) list)))
 
-within_front : (clauses more : List (List ℕ)) → greatest_of_all clauses ≤ greatest_of_all (clauses ++ more)
-within_front [] more = omega arith
-within_front (clause ∷ clauses) more = let rest = within_front clauses more in omega (arith, rest)
-
 -- the variables of each job are within the greatest one
-clauses_within : (desk : Desk) (job : ℕ) → greatest_of_all (clauses_read desk) ≤ 8388607 → greatest_of_all (clauses_of desk.board.journal job) ≤ 8388607
-clauses_within desk job within =
-    let all = all_clauses [] 1 (segments desk.board.journal) in
-    let front = within_front (clauses_behind [] (segments desk.board.journal)) desk.pending.items in
-    let some = filter_within (λ (input : Known). nat_le input.tag job) (inputs desk.board.journal) in
-    omega (arith, within, front, some, ap greatest_of_all all)
+clauses_within : (board : State) (job : ℕ) → AreWithinVariables (clauses_on board) →
+    AreWithinVariables (clauses_of board.journal job)
+clauses_within board job within =
+    let all = all_clauses [] 1 (segments board.journal) in
+    let some = filter_within (λ (input : Known). nat_le input.tag job) (inputs board.journal) in
+    omega (arith, within, some, ap greatest_of_all all)
 
 printable_answer : (trace : Bool) (journal : List Entry) (job : ℕ) (given : Answer) → greatest_of_all (clauses_of journal job) ≤ 8388607 → IsLitSet (cube_of journal job) → IsRightAnswer journal job given
     → IsPrintable (length (inputs_of journal job)) (shown_of_answer trace given)
@@ -96,7 +91,7 @@ printable_answer trace journal job (answer.Model values) within set right = omeg
 printable_answer true journal job (answer.Refuted part steps) within set right = ok_cite_earlier (inputs_of journal job) steps right.1.ok
 printable_answer false journal job (answer.Refuted part steps) within set right = tt
 
-printable_verdict : (trace : Bool) (rules : Rules) (journal : List Entry) (job : ℕ) (given copy : Verdict) → greatest_of_all (clauses_of journal job) ≤ 8388607 → IsLitSet (cube_of journal job) → HasCause rules journal job given → IsSame given copy
+printable_verdict : (trace : Bool) (rules : Rules) (journal : List Entry) (job : ℕ) (given copy : Verdict) → greatest_of_all (clauses_of journal job) ≤ 8388607 → IsLitSet (cube_of journal job) → HasItsCause rules journal job given → IsSame given copy
     → IsPrintable (length (inputs_of journal job)) (shown_of trace copy)
 printable_verdict trace rules journal job given (verdict.Cancelled by) within set cause same = tt
 printable_verdict trace rules journal job given verdict.Spent within set cause same = tt
@@ -108,12 +103,18 @@ printable_verdict trace rules journal job verdict.Spent (verdict.Answered other)
 printable_verdict trace rules journal job verdict.Starved (verdict.Answered other) within set cause same = absurd same
 
 -- the block of a job's verdict can be printed
-pub block_printable : (trace : Bool) (desk : Desk) (job count : ℕ) (copy : Verdict) (segment : Segment) → VerdictsHaveCauses → IsLegal desk.board.rules desk.board.journal → greatest_of_all (clauses_read desk) ≤ 8388607
-    → HasVerdict desk.board job copy → count ≡ length (inputs_of desk.board.journal job) → item_at (segments desk.board.journal) job ≡ Some segment → IsLitSet segment.cube → IsPrintable count (shown_of trace copy)
-block_printable trace desk job count copy segment law legal within has counted is set =
-    let cube : cube_of desk.board.journal job ≡ segment.cube = ap cube_in is in
+pub block_printable : (trace : Bool) (board : State) (job count : ℕ) (copy : Verdict)
+    (segment : Segment) → VerdictsHaveCauses → IsLegal board.rules board.journal →
+    AreWithinVariables (clauses_on board) → HasVerdict board job copy →
+    count ≡ length (inputs_of board.journal job) →
+    item_at (segments board.journal) job ≡ Some segment → IsLitSet segment.cube →
+    IsPrintable count (shown_of trace copy)
+block_printable trace board job count copy segment law legal within has counted is set =
+    let cube : cube_of board.journal job ≡ segment.cube = ap cube_in is in
+    let cause = law board.rules board.journal job has.given legal has.is in
     subst (λ n. IsPrintable n (shown_of trace copy)) (sym counted)
-    (printable_verdict trace desk.board.rules desk.board.journal job has.given copy (clauses_within desk job within) (subst IsLitSet (sym cube) set) (law desk.board.rules desk.board.journal job has.given legal has.is) has.same)
+    (printable_verdict trace board.rules board.journal job has.given copy
+    (clauses_within board job within) (subst IsLitSet (sym cube) set) cause has.same)
 
 same_shown : (trace : Bool) (given copy : Verdict) → IsSame given copy → shown_of trace copy ≡ shown_of trace given
 same_shown trace (verdict.Answered one) (verdict.Answered other) same = ap (shown_of_answer trace) (sym same)

@@ -21,7 +21,7 @@ use Rattle.attempt_core.specs.Fits.{Fits}
 use Rattle.search_core.specs.Solver.{Solver}
 use Rattle.worker_loop.specs.Working.{HasAttemptsMore, IsOfAttempt, IsResting}
 use Rattle.tarmo_run.specs.Block.{AreBlocks, IsBlockOf}
-use Rattle.tarmo_run.specs.Desk.{HasNoJobMore, IsLonger}
+use Rattle.tarmo_run.specs.Growth.{HasJobsMore, HasNoJobMore, IsLonger}
 use Rattle.tarmo_run.specs.Output.{AreSettled}
 
 keeps : (old new : State) (longer : IsLonger old new) → Keeps old.rules old.journal new.journal
@@ -66,6 +66,20 @@ no_job_none board = record { longer = longer_none board; segments = refl }
 
 pub no_job_on : (old mid new : State) → HasNoJobMore old mid → HasNoJobMore mid new → HasNoJobMore old new
 no_job_on old mid new one two = record { longer = longer_on old mid new one.longer two.longer; segments = two.segments ∙ one.segments }
+
+pub jobs_none : (board : State) → HasJobsMore board board
+jobs_none board = record {
+  longer = longer_none board;
+  none_cancelled = refl;
+  resting = λ caller resting. resting;
+}
+
+pub jobs_on : (old mid new : State) → HasJobsMore old mid → HasJobsMore mid new → HasJobsMore old new
+jobs_on old mid new one two = record {
+  longer = longer_on old mid new one.longer two.longer;
+  none_cancelled = two.none_cancelled ∙ one.none_cancelled;
+  resting = λ caller resting. two.resting caller (one.resting caller resting);
+}
 
 -- an entry that adds no job
 pub no_job_one : (old : State) (caller : ℕ) (happened : Event) → segment_of happened ≡ None → HasNoJobMore old (entered old caller happened)

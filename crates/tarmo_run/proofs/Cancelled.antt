@@ -16,7 +16,7 @@ use Rattle.board_core.specs.State.{State, entered}
 use Rattle.board_core.specs.Replies.{IsCancelFault, IsJob}
 use Rattle.board_core.proofs.Changes.{same_or_other}
 use Rattle.board_core.proofs.Readings.{settled_push}
-use Rattle.tarmo_run.specs.Desk.{HasNoJobMore, IsLonger}
+use Rattle.tarmo_run.specs.Growth.{HasNoJobMore, IsLonger}
 use Rattle.tarmo_run.specs.Output.{AreSettled}
 use Rattle.tarmo_run.proofs.Boards.{no_job_none, no_job_on, no_job_one, one_stays}
 

@@ -6,7 +6,7 @@ use Rattle.entry_core.specs.declared.entries.Event.TheVariants as event
 use Rattle.entry_core.specs.Settled.{cancelled, cancelled_by}
 use Rattle.board_core.specs.State.{State, entered}
 use Rattle.board_core.proofs.Readings.{unread}
-use Rattle.tarmo_run.specs.Desk.{HasNoJobMore}
+use Rattle.tarmo_run.specs.Growth.{HasNoJobMore}
 use Rattle.tarmo_run.proofs.Boards.{no_job_none, no_job_one}
 
 pub closed_more : (old new : State) (result : Result Unit ℕ) → OnOk result (new ≡ entered old 1 event.Closed) → OnErr result (new ≡ old) → HasNoJobMore old new

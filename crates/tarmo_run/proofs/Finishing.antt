@@ -15,17 +15,19 @@ use Rattle.tarmo_run.specs.declared.endings.Ending.{Ending}
 use Rattle.tarmo_run.specs.declared.endings.Ending.TheVariants.{Complete, Refused, Unread, Exhausted}
 use Rattle.tarmo_run.specs.declared.words.Command.{Command}
 use Rattle.tarmo_run.specs.Block.{AreBlocks}
-use Rattle.tarmo_run.specs.Desk.{HasNoJobMore, IsDone, IsFresh, queries_behind, queries_of}
-use Rattle.tarmo_run.specs.Ended.{Finished, FinishedInPart}
+use Rattle.tarmo_run.specs.Client.{queries_behind, queries_on}
+use Rattle.tarmo_run.specs.Desk.{IsFresh}
+use Rattle.tarmo_run.specs.Growth.{HasNoJobMore}
+use Rattle.tarmo_run.specs.Ended.{Finished, FinishedInPart, TookFrontOfLine}
 use Rattle.tarmo_run.specs.Output.{AreSettled, IsEnding, IsOutput, IsRun, PutFirst, Reading, UnlessExhausted, last_line_of, queries_in, status_of}
-use Rattle.tarmo_run.specs.Reading.{IsBegun, IsThrough, ReadsInPart, ReadsThrough}
+use Rattle.tarmo_run.specs.Reading.{AsksFirst, IsThrough, ReadsInPart, ReadsThrough}
 use Rattle.tarmo_run.specs.Words.{rules_of}
-use Rattle.tarmo_run.specs.Written.{HasWritten, TookFront, TookFrontOfLine}
+use Rattle.tarmo_run.specs.Writer.{HasAllBlocks, HasWritten, TookFront}
 use Rattle.tarmo_run.proofs.Boards.{blocks_stay, settled_stay}
 use Rattle.tarmo_run.proofs.Queries.{queries_put}
 
 -- nothing is written yet
-pub none_written : (trace : Bool) (desk : Desk) (before : Option (List ℕ)) → IsFresh desk → HasWritten trace desk before before
+pub none_written : (trace : Bool) (desk : Desk) (before : Option (List ℕ)) → IsFresh desk → HasWritten trace desk.writer desk.board before before
 none_written trace desk before fresh = record {
   blocks = [];
   right = subst (λ n. AreBlocks trace desk.board n []) (sym fresh.written) refl;
@@ -46,28 +48,29 @@ told_ends : (ending told : Ending) (reading : Reading) → (told ≡ ending) ⊎
 told_ends ending told reading (inl same) ends = subst (λ (e : Ending). IsEnding e reading) (sym same) ends
 told_ends ending told reading (inr memory) ends = subst (λ (e : Ending). IsEnding e reading) (sym memory) tt
 
-abbrev begun_still : (reading : Reading) (old new : Desk) → HasNoJobMore old.board new.board → IsBegun reading old → IsBegun reading new
+abbrev begun_still : (reading : Reading) (old new : State) → HasNoJobMore old new →
+    AsksFirst reading old → AsksFirst reading new
 begun_still reading old new more begun = record {
   left = begun.left;
   queries = begun.queries ∙ ap (λ (jobs : List Job). jobs ++ begun.left) (ap (queries_behind []) (sym more.segments));
 }
 
 -- the blocks and a last line are an output
-output_of : (trace : Bool) (ending told : Ending) (reading : Reading) (old new : Desk) (blocks : List ℕ) → IsThrough ending reading old → (told ≡ ending) ⊎ (told ≡ Exhausted) → HasNoJobMore old.board new.board → old.written ≤ jobs old.board.journal
-    → AreBlocks trace old.board old.written blocks → IsOutput trace told reading new.board (blocks ++ last_line_of told)
+output_of : (trace : Bool) (ending told : Ending) (reading : Reading) (old : Desk) (new : State) (blocks : List ℕ) → IsThrough ending reading old → (told ≡ ending) ⊎ (told ≡ Exhausted) → HasNoJobMore old.board new → old.writer.written ≤ jobs old.board.journal
+    → AreBlocks trace old.board old.writer.written blocks → IsOutput trace told reading new (blocks ++ last_line_of told)
 output_of trace ending told reading old new blocks through which more few are = record {
   ends = told_ends ending told reading which through.ends;
-  count = old.written;
-  few = subst (λ n. old.written ≤ n) (ap length (sym more.segments)) few;
-  all = told_unless ending told (old.written ≡ jobs new.board.journal) which
-      (unless ending ((through.begun.left ≡ []) × IsDone old) (old.written ≡ jobs new.board.journal) (λ done. done.1.written ∙ ap length (sym more.segments)) through.all);
+  count = old.writer.written;
+  few = subst (λ n. old.writer.written ≤ n) (ap length (sym more.segments)) few;
+  all = told_unless ending told (old.writer.written ≡ jobs new.journal) which
+      (unless ending ((through.begun.left ≡ []) × HasAllBlocks old.writer old.board) (old.writer.written ≡ jobs new.journal) (λ done. done.1.written ∙ ap length (sym more.segments)) through.all);
   blocks = blocks;
-  right = blocks_stay trace old.board new.board old.written blocks more.longer few are;
+  right = blocks_stay trace old.board new old.writer.written blocks more.longer few are;
   written = refl;
 }
 
-pub finished : (trace : Bool) (ending told : Ending) (left_before left_after : Option (List ℕ)) (ended failed : Bool) (old new : Desk) (before middle after : Option (List ℕ)) →
-    ReadsThrough ending left_before left_after ended failed old → HasWritten trace old before middle → old.written ≤ jobs old.board.journal → HasNoJobMore old.board new.board → cancelled new.board.journal ≡ [] →
+pub finished : (trace : Bool) (ending told : Ending) (left_before left_after : Option (List ℕ)) (ended failed : Bool) (old : Desk) (new : State) (before middle after : Option (List ℕ)) →
+    ReadsThrough ending left_before left_after ended failed old → HasWritten trace old.writer old.board before middle → old.writer.written ≤ jobs old.board.journal → HasNoJobMore old.board new → cancelled new.journal ≡ [] →
     (told ≡ ending) ⊎ (told ≡ Exhausted) → after ≡ appended middle (last_line_of told) → Finished trace told left_before left_after ended failed new before after
 finished trace ending told left_before left_after ended failed old new before middle after reads took few more uncancelled which line =
     let reading : Reading = record { bytes = reads.bytes; ended = ended; failed = failed } in
@@ -77,14 +80,14 @@ finished trace ending told left_before left_after ended failed old new before mi
       text = took.blocks ++ last_line_of told;
       output = output_of trace ending told reading old new took.blocks reads.through which more few took.right;
       taken = line ∙ ap (λ taken. appended taken (last_line_of told)) took.taken ∙ appended_twice before took.blocks (last_line_of told);
-      begun = begun_still reading old new more reads.through.begun;
-      all = told_unless ending told ((reads.through.begun.left ≡ []) × AreSettled new.board) which
-          (unless ending ((reads.through.begun.left ≡ []) × IsDone old) ((reads.through.begun.left ≡ []) × AreSettled new.board) (λ done. (done.0, settled_stay old.board new.board more done.1.settled)) reads.through.all);
+      begun = begun_still reading old.board new more reads.through.begun;
+      all = told_unless ending told ((reads.through.begun.left ≡ []) × AreSettled new) which
+          (unless ending ((reads.through.begun.left ≡ []) × HasAllBlocks old.writer old.board) ((reads.through.begun.left ≡ []) × AreSettled new) (λ done. (done.0, settled_stay old.board new more done.1.settled)) reads.through.all);
       none_cancelled = uncancelled;
     }
 
-pub finished_in_line : (trace : Bool) (ending : Ending) (left_before left_after : Option (List ℕ)) (ended failed : Bool) (old new : Desk) (before middle after : Option (List ℕ)) →
-    ReadsThrough ending left_before left_after ended failed old → HasWritten trace old before middle → old.written ≤ jobs old.board.journal → HasNoJobMore old.board new.board →
+pub finished_in_line : (trace : Bool) (ending : Ending) (left_before left_after : Option (List ℕ)) (ended failed : Bool) (old : Desk) (new : State) (before middle after : Option (List ℕ)) →
+    ReadsThrough ending left_before left_after ended failed old → HasWritten trace old.writer old.board before middle → old.writer.written ≤ jobs old.board.journal → HasNoJobMore old.board new →
     TookFrontOfLine ending middle after → FinishedInPart trace left_before left_after ended failed new before after
 finished_in_line trace ending left_before left_after ended failed old new before middle after reads took few more front =
     let reading : Reading = record { bytes = reads.bytes; ended = ended; failed = failed } in
@@ -98,12 +101,12 @@ finished_in_line trace ending left_before left_after ended failed old new before
       taken = front.taken ∙ ap (λ taken. appended taken (take front.size (last_line_of front.told))) took.taken
           ∙ appended_twice before took.blocks (take front.size (last_line_of front.told))
           ∙ ap (appended before) (sym (take-append-add took.blocks (last_line_of front.told) front.size));
-      begun = begun_still reading old new more reads.through.begun;
+      begun = begun_still reading old.board new more reads.through.begun;
     }
 
-pub finished_in_blocks : (trace : Bool) (left_before left_after : Option (List ℕ)) (ended failed : Bool) (desk : Desk) (before after : Option (List ℕ)) →
-    ReadsInPart left_before left_after ended failed desk → TookFront trace desk.board before after → FinishedInPart trace left_before left_after ended failed desk before after
-finished_in_blocks trace left_before left_after ended failed desk before after reads front = record {
+pub finished_in_blocks : (trace : Bool) (left_before left_after : Option (List ℕ)) (ended failed : Bool) (board : State) (before after : Option (List ℕ)) →
+    ReadsInPart left_before left_after ended failed board → TookFront trace board before after → FinishedInPart trace left_before left_after ended failed board before after
+finished_in_blocks trace left_before left_after ended failed board before after reads front = record {
   bytes = reads.bytes;
   gave = reads.gave;
   ending = Exhausted;
@@ -114,14 +117,14 @@ finished_in_blocks trace left_before left_after ended failed desk before after r
   begun = reads.begun;
 }
 
-put_first : (reading : Reading) (desk : Desk) (begun : IsBegun reading desk) → PutFirst desk.board.journal (queries_in reading.bytes reading.ended) begun.left
-put_first reading desk begun = record { done = queries_of desk; whole = begun.queries; put = queries_put desk.board.journal }
+put_first : (reading : Reading) (board : State) (begun : AsksFirst reading board) → PutFirst board.journal (queries_in reading.bytes reading.ended) begun.left
+put_first reading board begun = record { done = queries_on board; whole = begun.queries; put = queries_put board.journal }
 
 -- the whole output was taken, and the board is given back
-pub ran_through : (command : Command) (ending : Ending) (left_before left_after : Option (List ℕ)) (ended failed : Bool) (desk : Desk) (before after : Option (List ℕ)) (status : ℕ) →
-    desk.board.rules ≡ rules_of command → IsLegal desk.board.rules desk.board.journal → status ≡ status_of ending desk.board → Finished command.trace ending left_before left_after ended failed desk before after →
-    IsRun command left_before left_after ended failed before after status desk.board
-ran_through command ending left_before left_after ended failed desk before after status rules legal told f =
+pub ran_through : (command : Command) (ending : Ending) (left_before left_after : Option (List ℕ)) (ended failed : Bool) (board : State) (before after : Option (List ℕ)) (status : ℕ) →
+    board.rules ≡ rules_of command → IsLegal board.rules board.journal → status ≡ status_of ending board → Finished command.trace ending left_before left_after ended failed board before after →
+    IsRun command left_before left_after ended failed before after status board
+ran_through command ending left_before left_after ended failed board before after status rules legal told f =
     let reading : Reading = record { bytes = f.bytes; ended = ended; failed = failed } in
     record {
       rules = rules;
@@ -135,9 +138,9 @@ ran_through command ending left_before left_after ended failed desk before after
         taken = f.taken;
         told = told;
         left = f.begun.left;
-        put = put_first reading desk f.begun;
-        all_put = unless ending ((f.begun.left ≡ []) × AreSettled desk.board) (f.begun.left ≡ []) (λ all. all.0) f.all;
-        all_settled = unless ending ((f.begun.left ≡ []) × AreSettled desk.board) (AreSettled desk.board) (λ all. all.1) f.all;
+        put = put_first reading board f.begun;
+        all_put = unless ending ((f.begun.left ≡ []) × AreSettled board) (f.begun.left ≡ []) (λ all. all.0) f.all;
+        all_settled = unless ending ((f.begun.left ≡ []) × AreSettled board) (AreSettled board) (λ all. all.1) f.all;
         none_cancelled = f.none_cancelled;
       });
     }
@@ -154,9 +157,9 @@ output_still trace ending reading old new text more output = record {
 }
 
 -- the sink failed, and what wasn't settled was cancelled
-pub ran_in_part : (command : Command) (left_before left_after : Option (List ℕ)) (ended failed : Bool) (old new : Desk) (before after : Option (List ℕ)) (status : ℕ) →
-    new.board.rules ≡ rules_of command → IsLegal new.board.rules new.board.journal → status ≡ 4 → HasNoJobMore old.board new.board → AreSettled new.board → FinishedInPart command.trace left_before left_after ended failed old before after →
-    IsRun command left_before left_after ended failed before after status new.board
+pub ran_in_part : (command : Command) (left_before left_after : Option (List ℕ)) (ended failed : Bool) (old new : State) (before after : Option (List ℕ)) (status : ℕ) →
+    new.rules ≡ rules_of command → IsLegal new.rules new.journal → status ≡ 4 → HasNoJobMore old new → AreSettled new → FinishedInPart command.trace left_before left_after ended failed old before after →
+    IsRun command left_before left_after ended failed before after status new
 ran_in_part command left_before left_after ended failed old new before after status rules legal told more settled f =
     let reading : Reading = record { bytes = f.bytes; ended = ended; failed = failed } in
     let begun = begun_still reading old new more f.begun in
@@ -168,7 +171,7 @@ ran_in_part command left_before left_after ended failed old new before after sta
       wrote = inr (record {
         ending = f.ending;
         text = f.text;
-        output = output_still command.trace f.ending reading old.board new.board f.text more f.output;
+        output = output_still command.trace f.ending reading old new f.text more f.output;
         size = f.size;
         taken = f.taken;
         told = told;

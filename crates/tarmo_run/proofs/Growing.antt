@@ -10,20 +10,32 @@ use Rattle.entry_core.specs.Journal.{segment_of, segments}
 use Rattle.entry_core.specs.Settled.{cancelled, cancelled_by}
 use Rattle.board_core.specs.State.{State, entered}
 use Rattle.board_core.proofs.Readings.{unread, read_on}
-use Rattle.worker_loop.specs.Working.{IsResting}
-use Rattle.tarmo_run.specs.Desk.{IsLonger}
+use Rattle.tarmo_run.specs.Growth.{HasJobsMore, IsLonger}
 use Rattle.tarmo_run.proofs.Boards.{rests_still}
 
-pub longer_by : (old new : State) (segment : Arc Segment Global) → new ≡ entered old 1 (event.Added segment) → IsLonger old new
-longer_by old new segment is = subst (IsLonger old) (sym is) (record { rules = refl; more = record { caller = 1; event = event.Added segment } ∷ []; is = refl })
+-- the entry that adds a job
+abbrev adding : Arc Segment Global → Entry
+adding segment = record { caller = 1; event = event.Added segment }
 
-pub one_segment_more : (old new : State) (segment : Arc Segment Global) (value : Segment) → new ≡ entered old 1 (event.Added segment) → arc_value segment ≡ value → segments new.journal ≡ segments old.journal ++ value ∷ []
+longer_by : (old new : State) (segment : Arc Segment Global) →
+    new ≡ entered old 1 (event.Added segment) → IsLonger old new
+longer_by old new segment is =
+    subst (IsLonger old) (sym is) (record { rules = refl; more = adding segment ∷ []; is = refl })
+
+pub one_segment_more : (old new : State) (segment : Arc Segment Global) (value : Segment) →
+    new ≡ entered old 1 (event.Added segment) → arc_value segment ≡ value →
+    segments new.journal ≡ segments old.journal ++ value ∷ []
 one_segment_more old new segment value is same =
-    ap (λ (b : State). segments b.journal) is ∙ read_on (λ (e : Entry). segment_of e.event) old.journal (record { caller = 1; event = event.Added segment }) (arc_value segment) refl ∙ ap (λ (s : Segment). segments old.journal ++ s ∷ []) same
+    ap (λ (b : State). segments b.journal) is
+    ∙ read_on (λ (e : Entry). segment_of e.event) old.journal (adding segment) (arc_value segment) refl
+    ∙ ap (λ (s : Segment). segments old.journal ++ s ∷ []) same
 
-pub none_cancelled_by : (old new : State) (segment : Arc Segment Global) → new ≡ entered old 1 (event.Added segment) → cancelled new.journal ≡ cancelled old.journal
-none_cancelled_by old new segment is =
-    ap (λ (b : State). cancelled b.journal) is ∙ unread (λ (e : Entry). cancelled_by e.event) old.journal (record { caller = 1; event = event.Added segment }) refl
-
-pub rests_by : (old new : State) (segment : Arc Segment Global) (caller : ℕ) → new ≡ entered old 1 (event.Added segment) → IsResting old caller → IsResting new caller
-rests_by old new segment caller is resting = rests_still old new (record { caller = 1; event = event.Added segment }) caller (ap (λ (b : State). b.journal) is) refl refl resting
+pub jobs_by : (old new : State) (segment : Arc Segment Global) →
+    new ≡ entered old 1 (event.Added segment) → HasJobsMore old new
+jobs_by old new segment is = record {
+  longer = longer_by old new segment is;
+  none_cancelled = ap (λ (b : State). cancelled b.journal) is
+      ∙ unread (λ (e : Entry). cancelled_by e.event) old.journal (adding segment) refl;
+  resting = λ caller resting.
+      rests_still old new (adding segment) caller (ap (λ (b : State). b.journal) is) refl refl resting;
+}

@@ -13,4 +13,5 @@ mod Reached
 mod Results
 mod Statements
 mod Statuses
+mod Variables
 mod WordList

@@ -11,7 +11,7 @@ use Rattle.entry_core.specs.declared.segments.Segment.{Segment}
 use Rattle.entry_core.specs.Journal.{jobs, segments, inputs_of, clauses_of, cube_in, cube_of}
 use Rattle.entry_core.proofs.Inputs.{inputs_of_next, inputs_of_none, tagged}
 use Rattle.icnf_text.specs.Jobs.{Job}
-use Rattle.tarmo_run.specs.Desk.{clauses_behind, queries_behind}
+use Rattle.tarmo_run.specs.Client.{clauses_behind, queries_behind}
 use Rattle.tarmo_run.specs.Output.{PutQueries}
 
 pub clauses_behind-append : (clauses : List (List ℕ)) (first : List Segment) (segment : Segment) → clauses_behind clauses (first ++ segment ∷ []) ≡ clauses_behind clauses first ++ segment.clauses

@@ -13,44 +13,52 @@ use Rattle.entry_core.specs.Journal.{jobs, segments}
 use Rattle.icnf_text.specs.declared.faults.Fault.{Fault}
 use Rattle.icnf_text.specs.declared.statements.Numbered.{Numbered}
 use Rattle.icnf_text.specs.Judgement.{statements, wrong}
-use Rattle.icnf_text.specs.Jobs.{Job, clauses_after, clauses_of, jobs_after, jobs_of}
-use Rattle.icnf_text.specs.Machine.{State, HasRead}
+use Rattle.icnf_text.specs.Jobs.{Job, clauses_after, clauses_of as clauses_stated, jobs_after, jobs_of}
+use Rattle.icnf_text.specs.Machine.{State as ReaderState, HasRead}
+use Rattle.board_core.specs.State.{State}
 use Rattle.icnf_text.proofs.Fronts.{all_counted, ended_statements, last_statements, longer_statements, more_statements, nothing_stated, nothing_wrong}
 use Rattle.tarmo_run.specs.declared.desk.Desk.{Desk}
 use Rattle.tarmo_run.specs.declared.endings.Ending.{Ending}
 use Rattle.tarmo_run.specs.declared.endings.Ending.TheVariants.{Complete, Refused, Unread, Exhausted}
-use Rattle.tarmo_run.specs.Desk.{HasEntriesMore, IsDone, IsFresh, clauses_behind, clauses_read, queries_behind, queries_of}
+use Rattle.tarmo_run.specs.declared.writer.Writer.{Writer}
+use Rattle.tarmo_run.specs.Client.{AddsFirst, clauses_behind, clauses_read, queries_behind, queries_on}
+use Rattle.tarmo_run.specs.Desk.{Answers, IsFresh}
+use Rattle.tarmo_run.specs.Growth.{IsLonger}
 use Rattle.tarmo_run.specs.Output.{queries_in, unnumbered}
-use Rattle.tarmo_run.specs.Reading.{Adds, AddsFirst, IsBegun, IsCaughtUp, IsThrough, ReadsInPart, ReadsThrough, StopsBy}
+use Rattle.tarmo_run.specs.Reading.{AsksFirst, IsCaughtUp, IsThrough, ReadsInPart, ReadsThrough, StopsBy}
 use Rattle.tarmo_run.specs.Block.{AreBlocks}
-use Rattle.tarmo_run.specs.Written.{HasWritten}
+use Rattle.tarmo_run.specs.Writer.{HasWritten}
 use Rattle.tarmo_run.proofs.Boards.{blocks_stay}
 use Rattle.tarmo_run.proofs.Queries.{as_many}
 use Rattle.tarmo_run.proofs.Statements.{more_clauses, more_jobs}
 
 -- what is written stays written
-pub written_still : (trace : Bool) (old new : Desk) (before now : Option (List ℕ)) → HasEntriesMore old new → old.written ≤ jobs old.board.journal → HasWritten trace old before now → HasWritten trace new before now
-written_still trace old new before now more few took = record {
+pub written_still : (trace : Bool) (writer writer' : Writer) (old new : State)
+    (before now : Option (List ℕ)) → IsLonger old new → writer' ≡ writer →
+    writer.written ≤ jobs old.journal → HasWritten trace writer old before now →
+    HasWritten trace writer' new before now
+written_still trace writer writer' old new before now more same few took = record {
   blocks = took.blocks;
-  right = subst (λ n. AreBlocks trace new.board n took.blocks) (sym more.written) (blocks_stay trace old.board new.board old.written took.blocks more.longer few took.right);
+  right = subst (λ (w : Writer). AreBlocks trace new w.written took.blocks) (sym same)
+      (blocks_stay trace old new writer.written took.blocks more few took.right);
   taken = took.taken;
 }
 
 -- statements and then more of them, and their queries
-told : (old new : Desk) (first list all : List Numbered) → first ++ list ≡ all → queries_of old ≡ jobs_of (unnumbered first) → clauses_read old ≡ clauses_of (unnumbered first) → Adds old new list
-    → (queries_of new ≡ jobs_of (unnumbered all)) × (clauses_read new ≡ clauses_of (unnumbered all))
-told old new first list all whole queries clauses adds = (
-  adds.queries ∙ ap (λ (jobs : List Job). jobs ++ jobs_after (clauses_read old) (unnumbered list)) queries
+told : (old new : Desk) (first list all : List Numbered) → first ++ list ≡ all → queries_on old.board ≡ jobs_of (unnumbered first) → clauses_read old.client old.board ≡ clauses_stated (unnumbered first) → Answers old new list
+    → (queries_on new.board ≡ jobs_of (unnumbered all)) × (clauses_read new.client new.board ≡ clauses_stated (unnumbered all))
+told old new first list all whole queries clauses answers = (
+  answers.adds.queries ∙ ap (λ (jobs : List Job). jobs ++ jobs_after (clauses_read old.client old.board) (unnumbered list)) queries
       ∙ ap (λ (read : List (List ℕ)). jobs_of (unnumbered first) ++ jobs_after read (unnumbered list)) clauses
       ∙ sym (more_jobs [] first list) ∙ ap (λ (list : List Numbered). jobs_of (unnumbered list)) whole,
-  adds.clauses ∙ ap (λ (read : List (List ℕ)). clauses_after read (unnumbered list)) clauses
-      ∙ sym (more_clauses [] first list) ∙ ap (λ (list : List Numbered). clauses_of (unnumbered list)) whole,
+  answers.adds.clauses ∙ ap (λ (read : List (List ℕ)). clauses_after read (unnumbered list)) clauses
+      ∙ sym (more_clauses [] first list) ∙ ap (λ (list : List Numbered). clauses_stated (unnumbered list)) whole,
 )
 
-begun_by : (old new : Desk) (first list all : List Numbered) → first ++ list ≡ all → queries_of old ≡ jobs_of (unnumbered first) → clauses_read old ≡ clauses_of (unnumbered first) → (added : AddsFirst old new list)
-    → jobs_of (unnumbered all) ≡ queries_of new ++ added.left
+begun_by : (old new : Desk) (first list all : List Numbered) → first ++ list ≡ all → queries_on old.board ≡ jobs_of (unnumbered first) → clauses_read old.client old.board ≡ clauses_stated (unnumbered first) → (added : AddsFirst old.client old.board new.board list)
+    → jobs_of (unnumbered all) ≡ queries_on new.board ++ added.left
 begun_by old new first list all whole queries clauses added =
-    sym (ap (λ (jobs : List Job). jobs ++ jobs_after (clauses_read old) (unnumbered list)) queries
+    sym (ap (λ (jobs : List Job). jobs ++ jobs_after (clauses_read old.client old.board) (unnumbered list)) queries
     ∙ ap (λ (read : List (List ℕ)). jobs_of (unnumbered first) ++ jobs_after read (unnumbered list)) clauses
     ∙ sym (more_jobs [] first list) ∙ ap (λ (list : List Numbered). jobs_of (unnumbered list)) whole)
     ∙ added.queries
@@ -59,15 +67,15 @@ no_more : (queries jobs : List Job) → jobs ≡ queries → queries ≡ jobs ++
 no_more queries jobs same = sym same ∙ sym (append-nil jobs)
 
 -- the run stops behind these statements
-through_stop : (ending : Ending) (reader : State) (old new : Desk) (bytes whole : List ℕ) (ended failed : Bool) (list : List Numbered) (fault : Option Fault) → failed ≡ false → IsCaughtUp reader old bytes
+through_stop : (ending : Ending) (reader : ReaderState) (old new : Desk) (bytes whole : List ℕ) (ended failed : Bool) (list : List Numbered) (fault : Option Fault) → failed ≡ false → IsCaughtUp reader old bytes
     → statements bytes false ++ list ≡ statements whole ended → fault ≡ wrong whole ended → StopsBy ending fault old new list → IsThrough ending (record { bytes = whole; ended = ended; failed = failed }) new
 through_stop (Complete count) reader old new bytes whole ended failed list fault unfailing up given is stop = absurd stop
 through_stop (Refused found) reader old new bytes whole ended failed list fault unfailing up given is stop =
     let all = told old new (statements bytes false) list (statements whole ended) given up.queries up.clauses stop.1 in
     record {
       ends = (unfailing, sym is ∙ stop.0);
-      begun = record { left = []; queries = no_more (queries_in whole ended) (queries_of new) all.0 };
-      all = (refl, stop.2);
+      begun = record { left = []; queries = no_more (queries_in whole ended) (queries_on new.board) all.0 };
+      all = (refl, stop.1.done);
     }
 through_stop Unread reader old new bytes whole ended failed list fault unfailing up given is stop = absurd stop
 through_stop Exhausted reader old new bytes whole ended failed list fault unfailing up given is stop = record {
@@ -76,95 +84,95 @@ through_stop Exhausted reader old new bytes whole ended failed list fault unfail
   all = tt;
 }
 
-piece_stop : (stop : Option Ending) (reader after : State) (old new : Desk) (bytes piece : List ℕ) (failed : Bool) (list : List Numbered) (fault : Option Fault) → failed ≡ false → IsCaughtUp reader old bytes
+piece_stop : (stop : Option Ending) (reader after : ReaderState) (old new : Desk) (bytes piece : List ℕ) (failed : Bool) (list : List Numbered) (fault : Option Fault) → failed ≡ false → IsCaughtUp reader old bytes
     → HasRead after (bytes ++ piece) → statements bytes false ++ list ≡ statements (bytes ++ piece) false → fault ≡ wrong (bytes ++ piece) false
-    → MatchOption stop ((fault ≡ None) × Adds old new list × IsDone new) (λ ending. StopsBy ending fault old new list)
+    → MatchOption stop ((fault ≡ None) × Answers old new list) (λ ending. StopsBy ending fault old new list)
     → MatchOption stop (IsCaughtUp after new (bytes ++ piece)) (λ ending. IsThrough ending (record { bytes = bytes ++ piece; ended = false; failed = failed }) new)
 piece_stop None reader after old new bytes piece failed list fault unfailing up read given is stop =
     let all = told old new (statements bytes false) list (statements (bytes ++ piece) false) given up.queries up.clauses stop.1 in
-    record { read = read; right = sym is ∙ stop.0; queries = all.0; clauses = all.1; done = stop.2 }
+    record { read = read; right = sym is ∙ stop.0; queries = all.0; clauses = all.1; done = stop.1.done }
 piece_stop (Some ending) reader after old new bytes piece failed list fault unfailing up read given is stop =
     through_stop ending reader old new bytes (bytes ++ piece) false failed list fault unfailing up given is stop
 
 -- what has come of a piece
-pub piece_through : (result : Result (Option Ending) Failed) (reader after : State) (old new : Desk) (piece : List ℕ) (list : List Numbered) (fault : Option Fault) →
+pub piece_through : (result : Result (Option Ending) Failed) (reader after : ReaderState) (old new : Desk) (piece : List ℕ) (list : List Numbered) (fault : Option Fault) →
     ((text : List ℕ) → HasRead reader text → HasRead after (text ++ piece)) →
     ((text : List ℕ) → HasRead reader text → statements text false ++ list ≡ statements (text ++ piece) false) →
     ((text : List ℕ) → HasRead reader text → fault ≡ wrong (text ++ piece) false) →
-    IfOk result (λ stop. MatchOption stop ((fault ≡ None) × Adds old new list × IsDone new) (λ ending. StopsBy ending fault old new list)) →
+    IfOk result (λ stop. MatchOption stop ((fault ≡ None) × Answers old new list) (λ ending. StopsBy ending fault old new list)) →
     IfOk result (λ stop. (bytes : List ℕ) (failed : Bool) → failed ≡ false → IsCaughtUp reader old bytes →
     MatchOption stop (IsCaughtUp after new (bytes ++ piece)) (λ ending. IsThrough ending (record { bytes = bytes ++ piece; ended = false; failed = failed }) new))
 piece_through (Ok stop) reader after old new piece list fault read given is stops = λ bytes failed unfailing up.
     piece_stop stop reader after old new bytes piece failed list fault unfailing up (read bytes up.read) (given bytes up.read) (is bytes up.read) stops
 piece_through (Err e) reader after old new piece list fault read given is stops = tt
 
-pub piece_in_part : (result : Result (Option Ending) Failed) (reader : State) (old new : Desk) (piece : List ℕ) (list : List Numbered) →
-    ((text : List ℕ) → HasRead reader text → statements text false ++ list ≡ statements (text ++ piece) false) → OnErr result (AddsFirst old new list) →
-    OnErr result ((bytes : List ℕ) (failed : Bool) → IsCaughtUp reader old bytes → IsBegun (record { bytes = bytes ++ piece; ended = false; failed = failed }) new)
+pub piece_in_part : (result : Result (Option Ending) Failed) (reader : ReaderState) (old new : Desk) (piece : List ℕ) (list : List Numbered) →
+    ((text : List ℕ) → HasRead reader text → statements text false ++ list ≡ statements (text ++ piece) false) → OnErr result (AddsFirst old.client old.board new.board list) →
+    OnErr result ((bytes : List ℕ) (failed : Bool) → IsCaughtUp reader old bytes → AsksFirst (record { bytes = bytes ++ piece; ended = false; failed = failed }) new.board)
 piece_in_part (Ok stop) reader old new piece list given first = tt
 piece_in_part (Err e) reader old new piece list given first = λ bytes failed up.
     record { left = first.left; queries = begun_by old new (statements bytes false) list (statements (bytes ++ piece) false) (given bytes up.read) up.queries up.clauses first }
 
 -- more statements that weren't looked at
-begun_before : (reader : State) (desk : Desk) (bytes whole : List ℕ) (ended failed : Bool) (more : List Numbered) → statements whole ended ≡ statements bytes false ++ more → IsCaughtUp reader desk bytes → IsBegun (record { bytes = whole; ended = ended; failed = failed }) desk
+begun_before : (reader : ReaderState) (desk : Desk) (bytes whole : List ℕ) (ended failed : Bool) (more : List Numbered) → statements whole ended ≡ statements bytes false ++ more → IsCaughtUp reader desk bytes → AsksFirst (record { bytes = whole; ended = ended; failed = failed }) desk.board
 begun_before reader desk bytes whole ended failed more is up = record {
-  left = jobs_after (clauses_of (unnumbered (statements bytes false))) (unnumbered more);
+  left = jobs_after (clauses_stated (unnumbered (statements bytes false))) (unnumbered more);
   queries = ap (λ (list : List Numbered). jobs_of (unnumbered list)) is ∙ more_jobs [] (statements bytes false) more
-      ∙ ap (λ (jobs : List Job). jobs ++ jobs_after (clauses_of (unnumbered (statements bytes false))) (unnumbered more)) (sym up.queries);
+      ∙ ap (λ (jobs : List Job). jobs ++ jobs_after (clauses_stated (unnumbered (statements bytes false))) (unnumbered more)) (sym up.queries);
 }
 
 -- memory ran out while a piece was read
-pub through_before_piece : (reader : State) (desk : Desk) (bytes piece : List ℕ) (failed : Bool) → IsCaughtUp reader desk bytes → IsThrough Exhausted (record { bytes = bytes ++ piece; ended = false; failed = failed }) desk
+pub through_before_piece : (reader : ReaderState) (desk : Desk) (bytes piece : List ℕ) (failed : Bool) → IsCaughtUp reader desk bytes → IsThrough Exhausted (record { bytes = bytes ++ piece; ended = false; failed = failed }) desk
 through_before_piece reader desk bytes piece failed up =
     record { ends = tt; begun = begun_before reader desk bytes (bytes ++ piece) false failed (more_statements bytes piece) (longer_statements bytes piece) up; all = tt }
 
 -- memory ran out at the end
-pub through_before_end : (reader : State) (desk : Desk) (bytes : List ℕ) (failed : Bool) → IsCaughtUp reader desk bytes → IsThrough Exhausted (record { bytes = bytes; ended = true; failed = failed }) desk
+pub through_before_end : (reader : ReaderState) (desk : Desk) (bytes : List ℕ) (failed : Bool) → IsCaughtUp reader desk bytes → IsThrough Exhausted (record { bytes = bytes; ended = true; failed = failed }) desk
 through_before_end reader desk bytes failed up =
     record { ends = tt; begun = begun_before reader desk bytes bytes true failed (last_statements bytes) (ended_statements bytes) up; all = tt }
 
 -- the text ended behind what was read last
-pub through_end : (ending : Ending) (reader : State) (old new : Desk) (list : List Numbered) (fault : Option Fault) (bytes : List ℕ) (failed : Bool) → failed ≡ false → IsCaughtUp reader old bytes →
+pub through_end : (ending : Ending) (reader : ReaderState) (old new : Desk) (list : List Numbered) (fault : Option Fault) (bytes : List ℕ) (failed : Bool) → failed ≡ false → IsCaughtUp reader old bytes →
     ((text : List ℕ) → HasRead reader text → statements text false ++ list ≡ statements text true) → ((text : List ℕ) → HasRead reader text → fault ≡ wrong text true) →
     StopsBy ending fault old new list → IsThrough ending (record { bytes = bytes; ended = true; failed = failed }) new
 through_end ending reader old new list fault bytes failed unfailing up given is stop =
     through_stop ending reader old new bytes bytes true failed list fault unfailing up (given bytes up.read) (is bytes up.read) stop
 
-pub through_complete : (reader : State) (old new : Desk) (count : ℕ) (list : List Numbered) (fault : Option Fault) (bytes : List ℕ) (failed : Bool) → failed ≡ false → IsCaughtUp reader old bytes →
+pub through_complete : (reader : ReaderState) (old new : Desk) (count : ℕ) (list : List Numbered) (fault : Option Fault) (bytes : List ℕ) (failed : Bool) → failed ≡ false → IsCaughtUp reader old bytes →
     ((text : List ℕ) → HasRead reader text → statements text false ++ list ≡ statements text true) → ((text : List ℕ) → HasRead reader text → fault ≡ wrong text true) →
-    fault ≡ None → Adds old new list → IsDone new → count ≡ jobs new.board.journal → IsThrough (Complete count) (record { bytes = bytes; ended = true; failed = failed }) new
-through_complete reader old new count list fault bytes failed unfailing up given is none adds done counted =
-    let all = told old new (statements bytes false) list (statements bytes true) (given bytes up.read) up.queries up.clauses adds in
+    fault ≡ None → Answers old new list → count ≡ jobs new.board.journal → IsThrough (Complete count) (record { bytes = bytes; ended = true; failed = failed }) new
+through_complete reader old new count list fault bytes failed unfailing up given is none answers counted =
+    let all = told old new (statements bytes false) list (statements bytes true) (given bytes up.read) up.queries up.clauses answers in
     record {
       ends = (unfailing, refl, sym (is bytes up.read) ∙ none, counted ∙ sym (as_many [] (segments new.board.journal)) ∙ ap length all.0);
-      begun = record { left = []; queries = no_more (queries_in bytes true) (queries_of new) all.0 };
-      all = (refl, done);
+      begun = record { left = []; queries = no_more (queries_in bytes true) (queries_on new.board) all.0 };
+      all = (refl, answers.done);
     }
 
-pub end_in_part : (reader : State) (old new : Desk) (list : List Numbered) (bytes : List ℕ) (failed : Bool) → ((text : List ℕ) → HasRead reader text → statements text false ++ list ≡ statements text true) → AddsFirst old new list
-    → IsCaughtUp reader old bytes → IsBegun (record { bytes = bytes; ended = true; failed = failed }) new
+pub end_in_part : (reader : ReaderState) (old new : Desk) (list : List Numbered) (bytes : List ℕ) (failed : Bool) → ((text : List ℕ) → HasRead reader text → statements text false ++ list ≡ statements text true) → AddsFirst old.client old.board new.board list
+    → IsCaughtUp reader old bytes → AsksFirst (record { bytes = bytes; ended = true; failed = failed }) new.board
 end_in_part reader old new list bytes failed given first up =
     record { left = first.left; queries = begun_by old new (statements bytes false) list (statements bytes true) (given bytes up.read) up.queries up.clauses first }
 
 -- how far a run has come in its text
-pub record Reached (reader : State) (desk : Desk) (left_before left_now : Option (List ℕ)) : Type 0 where
+pub record Reached (reader : ReaderState) (desk : Desk) (left_before left_now : Option (List ℕ)) : Type 0 where
   pub bytes : List ℕ
   pub gave : left_before ≡ followed_by bytes left_now
   pub up : IsCaughtUp reader desk bytes
 
-caught_none : (reader : State) (desk : Desk) → HasRead reader [] → IsFresh desk → IsCaughtUp reader desk []
+caught_none : (reader : ReaderState) (desk : Desk) → HasRead reader [] → IsFresh desk → IsCaughtUp reader desk []
 caught_none reader desk read fresh = record {
   read = read;
   right = nothing_wrong;
   queries = ap (λ (journal : List Entry). queries_behind [] (segments journal)) fresh.journal ∙ ap (λ (list : List Numbered). jobs_of (unnumbered list)) (sym nothing_stated);
-  clauses = ap (λ (journal : List Entry). clauses_behind [] (segments journal) ++ desk.pending.items) fresh.journal ∙ fresh.pending ∙ ap (λ (list : List Numbered). clauses_of (unnumbered list)) (sym nothing_stated);
+  clauses = ap (λ (journal : List Entry). clauses_behind [] (segments journal) ++ desk.client.pending.items) fresh.journal ∙ fresh.pending ∙ ap (λ (list : List Numbered). clauses_stated (unnumbered list)) (sym nothing_stated);
   done = record {
     settled = λ job there. absurd (omega (arith, there.from_one, there.added, ap jobs fresh.journal));
     written = fresh.written ∙ ap jobs (sym fresh.journal);
   };
 }
 
-pub nothing_reached : (reader : State) (desk : Desk) (left : Option (List ℕ)) → HasRead reader [] → IsFresh desk → Reached reader desk left left
+pub nothing_reached : (reader : ReaderState) (desk : Desk) (left : Option (List ℕ)) → HasRead reader [] → IsFresh desk → Reached reader desk left left
 nothing_reached reader desk left read fresh = record { bytes = []; gave = sym (followed_by_nothing left); up = caught_none reader desk read fresh }
 
 -- the source failed before anything was read
@@ -180,13 +188,13 @@ through_unstarted desk left_before left_after ended failed same unended failing 
 }
 
 -- the source failed behind what was read
-pub through_unread : (reader : State) (desk : Desk) (left_before left_now left_after : Option (List ℕ)) (ended failed : Bool) → left_after ≡ left_now → ended ≡ false → failed ≡ true → Reached reader desk left_before left_now → ReadsThrough Unread left_before left_after ended failed desk
+pub through_unread : (reader : ReaderState) (desk : Desk) (left_before left_now left_after : Option (List ℕ)) (ended failed : Bool) → left_after ≡ left_now → ended ≡ false → failed ≡ true → Reached reader desk left_before left_now → ReadsThrough Unread left_before left_after ended failed desk
 through_unread reader desk left_before left_now left_after ended failed same unended failing reached = record {
   bytes = reached.bytes;
   gave = reached.gave ∙ ap (followed_by reached.bytes) (sym same);
   through = rw unended (record {
     ends = (failing, reached.up.right);
-    begun = record { left = []; queries = no_more (queries_in reached.bytes false) (queries_of desk) reached.up.queries };
+    begun = record { left = []; queries = no_more (queries_in reached.bytes false) (queries_on desk.board) reached.up.queries };
     all = (refl, reached.up.done);
   });
 }
@@ -221,7 +229,7 @@ rest_gave : (count : ℕ) (buffer bytes : List ℕ) (left_before left_middle lef
 rest_gave count buffer bytes left_before left_middle left_after none gave reached =
     reached ∙ ap (followed_by bytes) (gave ∙ ap (λ n. followed_by (take n buffer) left_after) none ∙ followed_by_nothing left_after)
 
-pub rest_through : (result : Result Ending Failed) (reader : State) (old new : Desk) (count : ℕ) (buffer : List ℕ) (left_before left_middle left_after : Option (List ℕ)) (ended failed : Bool) →
+pub rest_through : (result : Result Ending Failed) (reader : ReaderState) (old new : Desk) (count : ℕ) (buffer : List ℕ) (left_before left_middle left_after : Option (List ℕ)) (ended failed : Bool) →
     ended ≡ true → failed ≡ false → count ≡ 0 → left_middle ≡ followed_by (take count buffer) left_after → Reached reader old left_before left_middle →
     IfOk result (λ ending. (bytes : List ℕ) (failed : Bool) → failed ≡ false → IsCaughtUp reader old bytes → IsThrough ending (record { bytes = bytes; ended = true; failed = failed }) new) →
     IfOk result (λ ending. ReadsThrough ending left_before left_after ended failed new)
@@ -232,10 +240,10 @@ rest_through (Ok ending) reader old new count buffer left_before left_middle lef
 }
 rest_through (Err e) reader old new count buffer left_before left_middle left_after ended failed end unfailed none gave reached through = tt
 
-pub rest_in_part : (result : Result Ending Failed) (reader : State) (old new : Desk) (count : ℕ) (buffer : List ℕ) (left_before left_middle left_after : Option (List ℕ)) (ended failed : Bool) →
+pub rest_in_part : (result : Result Ending Failed) (reader : ReaderState) (old new : Desk) (count : ℕ) (buffer : List ℕ) (left_before left_middle left_after : Option (List ℕ)) (ended failed : Bool) →
     ended ≡ true → count ≡ 0 → left_middle ≡ followed_by (take count buffer) left_after → Reached reader old left_before left_middle →
-    OnErr result ((bytes : List ℕ) (failed : Bool) → IsCaughtUp reader old bytes → IsBegun (record { bytes = bytes; ended = true; failed = failed }) new) →
-    OnErr result (ReadsInPart left_before left_after ended failed new)
+    OnErr result ((bytes : List ℕ) (failed : Bool) → IsCaughtUp reader old bytes → AsksFirst (record { bytes = bytes; ended = true; failed = failed }) new.board) →
+    OnErr result (ReadsInPart left_before left_after ended failed new.board)
 rest_in_part (Ok ending) reader old new count buffer left_before left_middle left_after ended failed end none gave reached begun = tt
 rest_in_part (Err e) reader old new count buffer left_before left_middle left_after ended failed end none gave reached begun = record {
   bytes = reached.bytes;
@@ -243,16 +251,16 @@ rest_in_part (Err e) reader old new count buffer left_before left_middle left_af
   begun = rw end (begun reached.bytes failed reached.up);
 }
 
-pub piece_broke : (reader : State) (old new : Desk) (piece : List ℕ) (left_before left_middle left_after : Option (List ℕ)) (ended failed : Bool) →
+pub piece_broke : (reader : ReaderState) (old new : Desk) (piece : List ℕ) (left_before left_middle left_after : Option (List ℕ)) (ended failed : Bool) →
     ended ≡ false → left_middle ≡ followed_by piece left_after → Reached reader old left_before left_middle →
-    ((bytes : List ℕ) (failed : Bool) → IsCaughtUp reader old bytes → IsBegun (record { bytes = bytes ++ piece; ended = false; failed = failed }) new) → ReadsInPart left_before left_after ended failed new
+    ((bytes : List ℕ) (failed : Bool) → IsCaughtUp reader old bytes → AsksFirst (record { bytes = bytes ++ piece; ended = false; failed = failed }) new.board) → ReadsInPart left_before left_after ended failed new.board
 piece_broke reader old new piece left_before left_middle left_after ended failed unended gave reached begun = record {
   bytes = reached.bytes ++ piece;
   gave = read_on left_before left_middle left_after reached.bytes piece reached.gave gave;
   begun = rw unended (begun reached.bytes failed reached.up);
 }
 
-pub piece_ended : (ending : Ending) (reader : State) (old new : Desk) (piece : List ℕ) (left_before left_middle left_after : Option (List ℕ)) (ended failed : Bool) →
+pub piece_ended : (ending : Ending) (reader : ReaderState) (old new : Desk) (piece : List ℕ) (left_before left_middle left_after : Option (List ℕ)) (ended failed : Bool) →
     ended ≡ false → failed ≡ false → left_middle ≡ followed_by piece left_after → Reached reader old left_before left_middle →
     ((bytes : List ℕ) (failed : Bool) → failed ≡ false → IsCaughtUp reader old bytes → IsThrough ending (record { bytes = bytes ++ piece; ended = false; failed = failed }) new) → ReadsThrough ending left_before left_after ended failed new
 piece_ended ending reader old new piece left_before left_middle left_after ended failed unended unfailed gave reached through = record {
@@ -262,7 +270,7 @@ piece_ended ending reader old new piece left_before left_middle left_after ended
 }
 
 -- the run goes on behind a piece
-pub piece_reached : (reader after : State) (old new : Desk) (piece : List ℕ) (left_before left_middle left_after : Option (List ℕ)) → left_middle ≡ followed_by piece left_after → Reached reader old left_before left_middle →
+pub piece_reached : (reader after : ReaderState) (old new : Desk) (piece : List ℕ) (left_before left_middle left_after : Option (List ℕ)) → left_middle ≡ followed_by piece left_after → Reached reader old left_before left_middle →
     ((bytes : List ℕ) (failed : Bool) → failed ≡ false → IsCaughtUp reader old bytes → IsCaughtUp after new (bytes ++ piece)) → Reached after new left_before left_after
 piece_reached reader after old new piece left_before left_middle left_after gave reached up = record {
   bytes = reached.bytes ++ piece;
@@ -271,7 +279,7 @@ piece_reached reader after old new piece left_before left_middle left_after gave
 }
 
 -- each piece brings the text nearer to the most bytes that it may have
-pub nearer : (reader after : State) (old new : Desk) (count : ℕ) (buffer : List ℕ) (left_before left_middle : Option (List ℕ)) → Reached reader old left_before left_middle →
+pub nearer : (reader after : ReaderState) (old new : Desk) (count : ℕ) (buffer : List ℕ) (left_before left_middle : Option (List ℕ)) → Reached reader old left_before left_middle →
     ((bytes : List ℕ) (failed : Bool) → failed ≡ false → IsCaughtUp reader old bytes → IsCaughtUp after new (bytes ++ take count buffer)) →
     (count ≡ 0 → ⊥) → count ≤ length buffer → 4294967296 - after.bytes < 4294967296 - reader.bytes
 nearer reader after old new count buffer left_before left_middle reached next some within =

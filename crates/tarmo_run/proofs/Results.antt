@@ -11,6 +11,6 @@ pub match_err : {T E : Type 0} (r : Result T E) (fault : E) (P : T → Type 0) (
 match_err (Ok x) fault P Q is q = cc
 match_err (Err e) fault P Q is q = let same : e ≡ fault = cc in rw same q
 
-pub on_ok_weaker_two : {T E P Q R : Type 0} (r : Result T E) → (P → Q → R) → OnOk r P → OnOk r Q → OnOk r R
-on_ok_weaker_two (Ok x) f p q = f p q
-on_ok_weaker_two (Err e) f p q = tt
+pub on_ok_weaker : {T E P Q : Type 0} (r : Result T E) → (P → Q) → OnOk r P → OnOk r Q
+on_ok_weaker (Ok x) f p = f p
+on_ok_weaker (Err e) f p = tt

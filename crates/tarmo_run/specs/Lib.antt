@@ -1,8 +1,10 @@
 pub mod Words
 pub mod Block
-pub mod Desk
 pub mod Output
+pub mod Growth
+pub mod Client
+pub mod Writer
 pub mod Stop
+pub mod Desk
 pub mod Reading
-pub mod Written
 pub mod Ended

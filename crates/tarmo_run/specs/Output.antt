@@ -1,5 +1,6 @@
 -- What a run writes for the bytes that it read, and the board that it gives back.
-use Rattle.std.specs.Prelude.{◌≡◌, ℕ, zero, suc, ◌≤◌, ◌⊎◌, ◌||◌, if◌then◌else◌, Bool, true, false, Option, Some, None, IsSome, List, [], ◌++◌, map, length, take, codes}
+use Rattle.std.specs.Prelude.{◌≡◌, ℕ, zero, suc, ◌≤◌, ◌⊎◌, ◌||◌, if◌then◌else◌, Bool, true, false}
+use Rattle.std.specs.Prelude.{Option, Some, None, IsSome, List, [], ◌++◌, map, length, take, codes}
 use Rattle.std.specs.Fmt.{decimal}
 use Rattle.run_io.specs.Bytes.{followed_by, appended}
 use Rattle.trace_core.specs.Known.{item_at}
@@ -21,7 +22,8 @@ use Rattle.entry_core.specs.Legal.{IsLegal}
 use Rattle.board_core.specs.State.{State}
 use Rattle.board_core.specs.Replies.{IsJob}
 use Rattle.tarmo_run.specs.declared.endings.Ending.{Ending}
-use Rattle.tarmo_run.specs.declared.endings.Ending.TheVariants.{Complete, Refused, Unread, Exhausted}
+use Rattle.tarmo_run.specs.declared.endings.Ending.TheVariants.{Complete, Refused}
+use Rattle.tarmo_run.specs.declared.endings.Ending.TheVariants.{Unread, Exhausted}
 use Rattle.tarmo_run.specs.declared.endings.Lack.{Lack}
 use Rattle.tarmo_run.specs.declared.endings.Lack.TheVariants.{Memory, Decision}
 use Rattle.tarmo_run.specs.declared.words.Command.{Command}
@@ -32,7 +34,8 @@ use Rattle.tarmo_run.specs.Block.{AreBlocks}
 abbrev pub unnumbered : List Numbered → List Statement
 unnumbered list = map (λ (numbered : Numbered). numbered.statement) list
 
--- The queries of a text, up to its first wrong place. Of a text that isn't ended only a front has come.
+-- The queries of a text, up to its first wrong place. Of a text that isn't ended only a front has
+-- come.
 abbrev pub queries_in : List ℕ → Bool → List Job
 queries_in bytes ended = jobs_of (unnumbered (statements bytes ended))
 
@@ -45,7 +48,8 @@ pub record Reading : Type 0 where
 -- The jobs of the journal put these queries, in order: the clauses that each job has, and its cube.
 pub record PutQueries (journal : List Entry) (queries : List Job) : Type 0 where
   pub count : jobs journal ≡ length queries
-  pub each : (job : ℕ) → 1 ≤ job → job ≤ jobs journal → item_at queries job ≡ Some (record { clauses = clauses_of journal job; cube = cube_of journal job })
+  pub each : (job : ℕ) → 1 ≤ job → job ≤ jobs journal → item_at queries job
+      ≡ Some (record { clauses = clauses_of journal job; cube = cube_of journal job })
 
 -- the jobs of the journal put the first of these queries, and these are left
 pub record PutFirst (journal : List Entry) (queries left : List Job) : Type 0 where
@@ -82,17 +86,20 @@ lacks_by Decision _ = false
 -- whether one of the jobs from 1 to the number has such a verdict
 abbrev pub is_one_so : (Option Verdict → Bool) → State → ℕ → Bool
 is_one_so kind board zero = false
-is_one_so kind board (suc job) = is_one_so kind board job || kind (settled board.rules board.journal (suc job))
+is_one_so kind board (suc job) =
+    is_one_so kind board job || kind (settled board.rules board.journal (suc job))
 
 abbrev pub status_before : Ending → State → ℕ
-status_before (Complete count) board = if is_one_so is_undecided board (jobs board.journal) then 1 else 0
+status_before (Complete count) board =
+    if is_one_so is_undecided board (jobs board.journal) then 1 else 0
 status_before (Refused fault) board = 2
 status_before Unread board = 3
 status_before Exhausted board = 6
 
 -- The status of a run that wrote its whole output. Where a job found no memory it is 6.
 abbrev pub status_of : Ending → State → ℕ
-status_of ending board = if is_one_so is_starved board (jobs board.journal) then 6 else status_before ending board
+status_of ending board =
+    if is_one_so is_starved board (jobs board.journal) then 6 else status_before ending board
 
 abbrev pub reason_text : Reason → List ℕ
 reason_text reason.Header = codes "header"
@@ -104,15 +111,22 @@ reason_text reason.TooLong = codes "too-long"
 
 abbrev pub last_line_of : Ending → List ℕ
 last_line_of (Complete count) = codes "end " ++ decimal count ++ codes "\n"
-last_line_of (Refused fault) = codes "refused " ++ decimal fault.line ++ codes " " ++ reason_text fault.reason ++ codes "\n"
+last_line_of (Refused fault) =
+    codes "refused " ++ decimal fault.line ++ codes " " ++ reason_text fault.reason ++ codes "\n"
 last_line_of Unread = codes "fault read\n"
 last_line_of Exhausted = codes "memory\n"
 
--- When a run ends so: the text was read to its end, it has a wrong place, or the source failed. Memory may run out at any time.
+-- When a run ends so: the text was read to its end, it has a wrong place, or the source failed.
+-- Memory may run out at any time.
 abbrev pub IsEnding : Ending → Reading → Type 0
-IsEnding (Complete count) reading = (reading.failed ≡ false) × (reading.ended ≡ true) × (wrong reading.bytes reading.ended ≡ None) × (count ≡ length (queries_in reading.bytes reading.ended))
-IsEnding (Refused fault) reading = (reading.failed ≡ false) × (wrong reading.bytes reading.ended ≡ Some fault)
-IsEnding Unread reading = (reading.failed ≡ true) × (wrong reading.bytes reading.ended ≡ None)
+IsEnding (Complete count) reading =
+    (reading.failed ≡ false) × (reading.ended ≡ true)
+    × (wrong reading.bytes reading.ended ≡ None)
+    × (count ≡ length (queries_in reading.bytes reading.ended))
+IsEnding (Refused fault) reading =
+    (reading.failed ≡ false) × (wrong reading.bytes reading.ended ≡ Some fault)
+IsEnding Unread reading =
+    (reading.failed ≡ true) × (wrong reading.bytes reading.ended ≡ None)
 IsEnding Exhausted reading = Unit {0}
 
 -- where memory ran out, nothing; and else this
@@ -122,8 +136,10 @@ UnlessExhausted (Refused fault) P = P
 UnlessExhausted Unread P = P
 UnlessExhausted Exhausted P = Unit {0}
 
--- The whole output of a run that ends so: the blocks of the first jobs of the board, and of all of them unless memory ran out, and the last line.
-pub record IsOutput (trace : Bool) (ending : Ending) (reading : Reading) (board : State) (text : List ℕ) : Type 0 where
+-- The whole output of a run that ends so: the blocks of the first jobs of the board, and of all of
+-- them unless memory ran out, and the last line.
+pub record IsOutput (trace : Bool) (ending : Ending) (reading : Reading) (board : State)
+    (text : List ℕ) : Type 0 where
   pub ends : IsEnding ending reading
   pub count : ℕ
   pub few : count ≤ jobs board.journal
@@ -132,8 +148,10 @@ pub record IsOutput (trace : Bool) (ending : Ending) (reading : Reading) (board 
   pub right : AreBlocks trace board count blocks
   pub written : text ≡ blocks ++ last_line_of ending
 
--- The sink took the whole output. The board's jobs are the text's queries, and each is settled; where memory ran out they are its first queries. None was cancelled.
-pub record WroteAll (trace : Bool) (reading : Reading) (board : State) (before after : Option (List ℕ)) (status : ℕ) : Type 0 where
+-- The sink took the whole output. The board's jobs are the text's queries, and each is settled;
+-- where memory ran out they are its first queries. None was cancelled.
+pub record WroteAll (trace : Bool) (reading : Reading) (board : State)
+    (before after : Option (List ℕ)) (status : ℕ) : Type 0 where
   pub ending : Ending
   pub text : List ℕ
   pub output : IsOutput trace ending reading board text
@@ -145,8 +163,10 @@ pub record WroteAll (trace : Bool) (reading : Reading) (board : State) (before a
   pub all_settled : UnlessExhausted ending (AreSettled board)
   pub none_cancelled : cancelled board.journal ≡ []
 
--- The sink failed: it took a front of an output. The board's jobs are the text's first queries, and each is settled, if only by being cancelled.
-pub record WroteFront (trace : Bool) (reading : Reading) (board : State) (before after : Option (List ℕ)) (status : ℕ) : Type 0 where
+-- The sink failed: it took a front of an output. The board's jobs are the text's first queries, and
+-- each is settled, if only by being cancelled.
+pub record WroteFront (trace : Bool) (reading : Reading) (board : State)
+    (before after : Option (List ℕ)) (status : ℕ) : Type 0 where
   pub ending : Ending
   pub text : List ℕ
   pub output : IsOutput trace ending reading board text
@@ -158,19 +178,26 @@ pub record WroteFront (trace : Bool) (reading : Reading) (board : State) (before
   pub all_settled : AreSettled board
 
 -- A run over a board, which it gives back: with the rules of the words and a legal journal.
-pub record IsRun (command : Command) (left_before left_after : Option (List ℕ)) (ended failed : Bool) (taken_before taken_after : Option (List ℕ)) (status : ℕ) (board : State) : Type 0 where
+pub record IsRun (command : Command) (left_before left_after : Option (List ℕ))
+    (ended failed : Bool) (taken_before taken_after : Option (List ℕ)) (status : ℕ)
+    (board : State) : Type 0 where
   pub rules : board.rules ≡ rules_of command
   pub legal : IsLegal board.rules board.journal
   pub bytes : List ℕ
   pub gave : left_before ≡ followed_by bytes left_after
-  pub wrote : WroteAll command.trace (record { bytes = bytes; ended = ended; failed = failed }) board taken_before taken_after status
-      ⊎ WroteFront command.trace (record { bytes = bytes; ended = ended; failed = failed }) board taken_before taken_after status
+  pub wrote : WroteAll command.trace (record { bytes = bytes; ended = ended; failed = failed })
+      board taken_before taken_after status
+      ⊎ WroteFront command.trace (record { bytes = bytes; ended = ended; failed = failed })
+      board taken_before taken_after status
 
--- A run without memory for a board reads nothing, and writes `memory`, or a front of it where the sink fails.
-pub record HadNoBoard (left_before left_after taken_before taken_after : Option (List ℕ)) (status : ℕ) : Type 0 where
+-- A run without memory for a board reads nothing, and writes `memory`, or a front of it where the
+-- sink fails.
+pub record HadNoBoard (left_before left_after taken_before taken_after : Option (List ℕ))
+    (status : ℕ) : Type 0 where
   pub unread : left_after ≡ left_before
   pub wrote : ((status ≡ 6) × (taken_after ≡ appended taken_before (last_line_of Exhausted)))
-      ⊎ ((status ≡ 4) × (size : ℕ) × (taken_after ≡ appended taken_before (take size (last_line_of Exhausted))))
+      ⊎ ((status ≡ 4) × (size : ℕ)
+      × (taken_after ≡ appended taken_before (take size (last_line_of Exhausted))))
 
 -- how a run over this whole text ends, where nothing fails and memory is there
 abbrev pub ending_by : Option Fault → ℕ → Ending
@@ -180,8 +207,10 @@ ending_by (Some fault) count = Refused fault
 abbrev pub ending_of : List ℕ → Ending
 ending_of text = ending_by (wrong text true) (length (queries_in text true))
 
--- The text decides the last line, and the board's jobs: every query up to its first wrong place is a job, which is settled and has its block.
-pub record IsAnswered (trace : Bool) (text : List ℕ) (taken_before taken_after : Option (List ℕ)) (status : ℕ) (board : State) : Type 0 where
+-- The text decides the last line, and the board's jobs: every query up to its first wrong place is
+-- a job, which is settled and has its block.
+pub record IsAnswered (trace : Bool) (text : List ℕ) (taken_before taken_after : Option (List ℕ))
+    (status : ℕ) (board : State) : Type 0 where
   pub put : PutQueries board.journal (queries_in text true)
   pub all_settled : AreSettled board
   pub blocks : List ℕ

@@ -1,8 +1,8 @@
 -- Why writing the blocks of jobs stopped.
 use Rattle.std.specs.Prelude.{◌≡◌, ℕ, ◌<◌, ◌≤◌, ◌⊎◌}
 use Rattle.run_io.specs.Fault.{last_count}
-use Rattle.tarmo_run.specs.declared.writing.Halt.{Halt}
-use Rattle.tarmo_run.specs.declared.writing.Halt.TheVariants.{Unwritten, Memory}
+use Rattle.tarmo_run.specs.declared.writer.Halt.{Halt}
+use Rattle.tarmo_run.specs.declared.writer.Halt.TheVariants.{Unwritten, Memory}
 
 -- the count of faults rose, or it stands at its last number
 pub record HasRisen (before now : ℕ) : Type 0 where

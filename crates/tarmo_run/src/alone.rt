@@ -1,6 +1,8 @@
 //! The run on the caller's own thread.
 
-ghost use Rattle.std.specs.Prelude.{◌≡◌, ◌≢◌, ◌<◌, ◌≤◌, ◌⊎◌, ◌↔◌, ◌^◌, ℕ, List, [], Some, None, true, false, nat_lt, map, take, string_bytes, IfOk, IfSome, OnErr, MatchOption};
+ghost use Rattle.std.specs.Prelude.{◌≡◌, ◌≢◌, ◌<◌, ◌≤◌, ◌⊎◌, ◌↔◌, ◌^◌, ℕ, List, [], Some, None};
+ghost use Rattle.std.specs.Prelude.{true, false, nat_lt, map, take, string_bytes};
+ghost use Rattle.std.specs.Prelude.{IfOk, IfSome, OnErr, MatchOption};
 ghost use Rattle.sat_base.specs.Lit.{variables};
 ghost use Rattle.run_io.specs.Bytes.{IsEmptyWhereTold, appended};
 ghost use Rattle.run_io.specs.Fault.{HasCause, last_count};
@@ -10,13 +12,14 @@ ghost use Rattle.entry_core.specs.Causes.{HasCause as HasItsCause};
 ghost use Rattle.entry_core.specs.Journal.{clauses_of, cube_of};
 ghost use Rattle.entry_core.specs.Legal.{IsLegal};
 ghost use Rattle.entry_core.specs.Settled.{settled};
-ghost use Rattle.tarmo_run.specs.Desk.{IsFresh, IsReady};
+ghost use Rattle.tarmo_run.specs.Desk.{IsBetweenPieces, IsFresh};
 ghost use Rattle.tarmo_run.specs.Output.{HadNoBoard, IsAnswered, IsRun, last_line_of};
 ghost use Rattle.tarmo_run.specs.Words.{accepted, rules_of};
 ghost use Rattle.tarmo_run.specs.Ended.{Finished, FinishedInPart};
 ghost use Rattle.tarmo_run.specs.declared.endings.Ending.TheVariants as endings;
 ghost use Rattle.tarmo_run.specs.declared.words.Command.{Command};
 
+use crate::client::{close_input, give_up};
 use crate::desk::Desk;
 use crate::endings::{Ending, NO_MEMORY, close_without_memory};
 use crate::pieces::show_blocks;
@@ -128,20 +131,22 @@ fn run_over<S: Source, O: Sink>(
     requires sink_faults { O.faults out.old < last_count }
     requires unread { S.ended source.old ≡ false }
     ensures run { MatchOption result.board ⊥
-        (IsRun command (S.left source.old) (S.left source.new) (S.ended source.new) (nat_lt (S.faults source.old) (S.faults source.new)) (O.taken out.old) (O.taken out.new) result.status) }
+        (IsRun command (S.left source.old) (S.left source.new) (S.ended source.new)
+        (nat_lt (S.faults source.old) (S.faults source.new))
+        (O.taken out.old) (O.taken out.new) result.status) }
     ensures whole { S.ended source.new ≡ true → IsEmptyWhereTold (S.left source.new) }
     ensures sink { (result.status ≡ 4) ↔ (O.faults out.old < O.faults out.new) }
     ensures counts { (S.faults source.old ≤ S.faults source.new) × (O.faults out.old ≤ O.faults out.new) }
 {
-    let mut desk = Desk::new(alloc, command, board);
-    match solve(alloc, command, &mut desk, source, out) {
+    let mut desk = Desk::new(alloc, board);
+    match solve(alloc, command.trace, &mut desk, source, out) {
         Ok(ending) => {
             let status = ending.status(&desk.board);
-            desk.finish(status)
+            give_back(desk, status)
         }
         Err(Failed) => {
-            desk.give_up(command);
-            desk.finish(SINK_FAILED)
+            give_up(&mut desk.board);
+            give_back(desk, SINK_FAILED)
         }
     }
 }
@@ -149,39 +154,43 @@ fn run_over<S: Source, O: Sink>(
 // Writes the whole output, and says how the run ended.
 fn solve<S: Source, O: Sink>(
     alloc: Global,
-    command: Command,
+    trace: bool,
     desk: &mut Desk,
     source: &mut S,
     out: &mut O,
 ) -> Result<Ending, Failed>
     requires fresh { IsFresh desk.old }
-    requires ready { IsReady command desk.old }
+    requires between { IsBetweenPieces desk.old }
     requires source_faults { S.faults source.old < last_count }
     requires unread { S.ended source.old ≡ false }
-    ensures rules { desk.new.board.rules ≡ rules_of command }
-    ensures finished { IfOk result (λ ending. Finished command.trace ending (S.left source.old) (S.left source.new) (S.ended source.new)
-        (nat_lt (S.faults source.old) (S.faults source.new)) desk.new (O.taken out.old) (O.taken out.new)) }
-    ensures front { OnErr result (FinishedInPart command.trace (S.left source.old) (S.left source.new) (S.ended source.new)
-        (nat_lt (S.faults source.old) (S.faults source.new)) desk.new (O.taken out.old) (O.taken out.new)) }
+    ensures rules { desk.new.board.rules ≡ desk.old.board.rules }
+    ensures finished { IfOk result (λ ending. Finished trace ending
+        (S.left source.old) (S.left source.new) (S.ended source.new)
+        (nat_lt (S.faults source.old) (S.faults source.new)) desk.new.board
+        (O.taken out.old) (O.taken out.new)) }
+    ensures front { OnErr result (FinishedInPart trace
+        (S.left source.old) (S.left source.new) (S.ended source.new)
+        (nat_lt (S.faults source.old) (S.faults source.new)) desk.new.board
+        (O.taken out.old) (O.taken out.new)) }
     ensures whole { S.ended source.new ≡ true → IsEmptyWhereTold (S.left source.new) }
     ensures later { S.faults source.old ≤ S.faults source.new }
     ensures cause { HasCause (O.faults out.old) (O.faults out.new) result }
 {
-    let ending = show_blocks(alloc, command, desk, source, out)?;
-    desk.close(command);
+    let ending = show_blocks(alloc, trace, desk, source, out)?;
+    close_input(&mut desk.board);
     ending.close(alloc, out)
 }
 
-impl Desk {
-    fn finish(self, status: u8) -> Finish
-        ensures parts { result ≡ record { status = status; board = Some self.board } }
-        ensures legal { IsLegal self.board.rules self.board.journal }
-    {
-        let Desk { board, .. } = self;
-        let _ = board.journal();
-        Finish {
-            status,
-            board: Some(board),
-        }
+// Gives the board back.
+fn give_back(desk: Desk, status: u8) -> Finish
+    ensures parts { result ≡ record { status = status; board = Some desk.board } }
+    ensures legal { IsLegal desk.board.rules desk.board.journal }
+{
+    let Desk { board, .. } = desk;
+    // A board tells that its journal is legal.
+    let _ = board.journal();
+    Finish {
+        status,
+        board: Some(board),
     }
 }

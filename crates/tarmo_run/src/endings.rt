@@ -8,7 +8,7 @@ ghost use Rattle.board_core.specs.Replies.{IsJob};
 ghost use Rattle.run_io.specs.Bytes.{appended};
 ghost use Rattle.run_io.specs.Fault.{HasCause};
 ghost use Rattle.tarmo_run.specs.Output.{is_one_so, is_undecided, lacking, lacks_by, last_line_of, reason_text, status_of};
-ghost use Rattle.tarmo_run.specs.Written.{TookFrontOfLine};
+ghost use Rattle.tarmo_run.specs.Ended.{TookFrontOfLine};
 ghost use Rattle.tarmo_run.specs.declared.endings.Ending.TheVariants as endings;
 
 use board_core::Board;

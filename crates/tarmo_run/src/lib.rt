@@ -6,13 +6,14 @@
 #![tactic(auto)]
 
 mod alone;
+mod client;
 mod desk;
 mod endings;
 mod pieces;
 #[cfg(test)]
 mod tests;
 mod words;
-mod writing;
+mod writer;
 
 pub use alone::{Finish, WORDS_REFUSED, run_alone};
 pub use endings::{NO_MEMORY, UNDECIDED};

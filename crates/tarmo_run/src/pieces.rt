@@ -1,16 +1,17 @@
 //! A text that comes in pieces, and is answered as it comes.
 
-ghost use Rattle.std.specs.Prelude.{◌≡◌, ◌<◌, ◌≤◌, ◌++◌, ℕ, List, Bool, None, false, true, nat_lt, length, IfOk, OnErr, OnOk, MatchOption};
+ghost use Rattle.std.specs.Prelude.{◌≡◌, ◌<◌, ◌≤◌, ◌++◌, ℕ, List, Bool, None, false, true, nat_lt};
+ghost use Rattle.std.specs.Prelude.{length, IfOk, OnErr, OnOk, MatchOption};
 ghost use Rattle.run_io.specs.Bytes.{IsEmptyWhereTold};
 ghost use Rattle.run_io.specs.Fault.{HasCause, last_count};
-ghost use Rattle.tarmo_run.specs.Desk.{HasEntriesMore, IsDone, IsFresh, IsReady};
-ghost use Rattle.tarmo_run.specs.Reading.{Adds, AddsFirst, IsBegun, IsCaughtUp, IsThrough, ReadsInPart, ReadsThrough, StopsBy, ending_behind};
-ghost use Rattle.tarmo_run.specs.Written.{Breaks, Writes};
+ghost use Rattle.tarmo_run.specs.Client.{AddsFirst};
+ghost use Rattle.tarmo_run.specs.Desk.{Answers, IsBetweenPieces, IsFresh, Shows, ShowsFront};
+ghost use Rattle.tarmo_run.specs.Reading.{AsksFirst, IsCaughtUp, IsThrough, ReadsInPart};
+ghost use Rattle.tarmo_run.specs.Reading.{ReadsThrough, StopsBy, ending_behind};
 
 use crate::desk::Desk;
 use crate::endings::Ending;
-use crate::words::Command;
-use crate::writing::Halt;
+use crate::writer::Halt;
 use icnf_text::{Fault, Fed, Reader};
 use run_io::{Failed, Sink, Source};
 use std::alloc::{AllocError, Global};
@@ -30,22 +31,27 @@ fn buffer(alloc: Global, len: usize) -> Result<Vec<u8>, AllocError>
 /// memory runs out.
 pub(crate) fn show_blocks<S: Source, O: Sink>(
     alloc: Global,
-    command: Command,
+    trace: bool,
     desk: &mut Desk,
     source: &mut S,
     out: &mut O,
 ) -> Result<Ending, Failed>
     requires fresh { IsFresh desk.old }
-    requires ready { IsReady command desk.old }
+    requires between { IsBetweenPieces desk.old }
     requires source_faults { S.faults source.old < last_count }
     requires unread { S.ended source.old ≡ false }
-    ensures ready { IsReady command desk.new }
-    ensures through { IfOk result (λ ending. ReadsThrough ending (S.left source.old) (S.left source.new) (S.ended source.new)
+    ensures between { IsBetweenPieces desk.new }
+    ensures rules { desk.new.board.rules ≡ desk.old.board.rules }
+    ensures through { IfOk result (λ ending.
+        ReadsThrough ending (S.left source.old) (S.left source.new) (S.ended source.new)
         (nat_lt (S.faults source.old) (S.faults source.new)) desk.new) }
-    ensures in_part { OnErr result (ReadsInPart (S.left source.old) (S.left source.new) (S.ended source.new)
-        (nat_lt (S.faults source.old) (S.faults source.new)) desk.new) }
-    ensures writes { OnOk result (Writes command.trace desk.old desk.new (O.taken out.old) (O.taken out.new)) }
-    ensures breaks { OnErr result (Breaks command.trace desk.old desk.new (O.taken out.old) (O.taken out.new)) }
+    ensures in_part { OnErr result
+        (ReadsInPart (S.left source.old) (S.left source.new) (S.ended source.new)
+        (nat_lt (S.faults source.old) (S.faults source.new)) desk.new.board) }
+    ensures writes { OnOk result
+        (Shows trace desk.old desk.new (O.taken out.old) (O.taken out.new)) }
+    ensures breaks { OnErr result
+        (ShowsFront trace desk.old desk.new (O.taken out.old) (O.taken out.new)) }
     ensures whole { S.ended source.new ≡ true → IsEmptyWhereTold (S.left source.new) }
     ensures later { S.faults source.old ≤ S.faults source.new }
     ensures cause { HasCause (O.faults out.old) (O.faults out.new) result }
@@ -54,7 +60,7 @@ pub(crate) fn show_blocks<S: Source, O: Sink>(
         return Ok(Ending::Exhausted);
     };
     match source.start(None) {
-        Ok(()) => answer_pieces(alloc, command, desk, &mut buffer, source, out),
+        Ok(()) => answer_pieces(alloc, trace, desk, &mut buffer, source, out),
         Err(Failed) => Ok(Ending::Unread),
     }
 }
@@ -62,24 +68,29 @@ pub(crate) fn show_blocks<S: Source, O: Sink>(
 // Reads and answers, a buffer at a time.
 fn answer_pieces<S: Source, O: Sink>(
     alloc: Global,
-    command: Command,
+    trace: bool,
     desk: &mut Desk,
     buffer: &mut [u8],
     source: &mut S,
     out: &mut O,
 ) -> Result<Ending, Failed>
     requires fresh { IsFresh desk.old }
-    requires ready { IsReady command desk.old }
+    requires between { IsBetweenPieces desk.old }
     requires room { 0 < length buffer.old }
     requires source_faults { S.faults source.old < last_count }
     requires unread { S.ended source.old ≡ false }
-    ensures ready { IsReady command desk.new }
-    ensures through { IfOk result (λ ending. ReadsThrough ending (S.left source.old) (S.left source.new) (S.ended source.new)
+    ensures between { IsBetweenPieces desk.new }
+    ensures rules { desk.new.board.rules ≡ desk.old.board.rules }
+    ensures through { IfOk result (λ ending.
+        ReadsThrough ending (S.left source.old) (S.left source.new) (S.ended source.new)
         (nat_lt (S.faults source.old) (S.faults source.new)) desk.new) }
-    ensures in_part { OnErr result (ReadsInPart (S.left source.old) (S.left source.new) (S.ended source.new)
-        (nat_lt (S.faults source.old) (S.faults source.new)) desk.new) }
-    ensures writes { OnOk result (Writes command.trace desk.old desk.new (O.taken out.old) (O.taken out.new)) }
-    ensures breaks { OnErr result (Breaks command.trace desk.old desk.new (O.taken out.old) (O.taken out.new)) }
+    ensures in_part { OnErr result
+        (ReadsInPart (S.left source.old) (S.left source.new) (S.ended source.new)
+        (nat_lt (S.faults source.old) (S.faults source.new)) desk.new.board) }
+    ensures writes { OnOk result
+        (Shows trace desk.old desk.new (O.taken out.old) (O.taken out.new)) }
+    ensures breaks { OnErr result
+        (ShowsFront trace desk.old desk.new (O.taken out.old) (O.taken out.new)) }
     ensures whole { S.ended source.new ≡ true → IsEmptyWhereTold (S.left source.new) }
     ensures later { S.faults source.old ≤ S.faults source.new }
     ensures cause { HasCause (O.faults out.old) (O.faults out.new) result }
@@ -90,9 +101,9 @@ fn answer_pieces<S: Source, O: Sink>(
             return Ok(Ending::Unread);
         };
         if count == 0 {
-            return answer_rest(reader, desk, command, out);
+            return answer_rest(reader, desk, trace, out);
         }
-        match answer_piece(&mut reader, desk, command, &buffer[..count], out)? {
+        match answer_piece(&mut reader, desk, trace, &buffer[..count], out)? {
             Some(ending) => return Ok(ending),
             None => {}
         }
@@ -103,24 +114,30 @@ fn answer_pieces<S: Source, O: Sink>(
 fn answer_piece<O: Sink>(
     reader: &mut Reader,
     desk: &mut Desk,
-    command: Command,
+    trace: bool,
     piece: &[u8],
     out: &mut O,
 ) -> Result<Option<Ending>, Failed>
-    requires ready { IsReady command desk.old }
-    ensures ready { IsReady command desk.new }
-    ensures through { IfOk result (λ stop. (bytes : List ℕ) (failed : Bool) → failed ≡ false → IsCaughtUp reader.old desk.old bytes →
+    requires between { IsBetweenPieces desk.old }
+    ensures between { IsBetweenPieces desk.new }
+    ensures rules { desk.new.board.rules ≡ desk.old.board.rules }
+    ensures through { IfOk result (λ stop. (bytes : List ℕ) (failed : Bool) →
+        failed ≡ false → IsCaughtUp reader.old desk.old bytes →
         MatchOption stop
         (IsCaughtUp reader.new desk.new (bytes ++ piece.now))
-        (λ ending. IsThrough ending (record { bytes = bytes ++ piece.now; ended = false; failed = failed }) desk.new)) }
-    ensures in_part { OnErr result ((bytes : List ℕ) (failed : Bool) → IsCaughtUp reader.old desk.old bytes →
-        IsBegun (record { bytes = bytes ++ piece.now; ended = false; failed = failed }) desk.new) }
-    ensures writes { OnOk result (Writes command.trace desk.old desk.new (O.taken out.old) (O.taken out.new)) }
-    ensures breaks { OnErr result (Breaks command.trace desk.old desk.new (O.taken out.old) (O.taken out.new)) }
+        (λ ending. IsThrough ending
+        (record { bytes = bytes ++ piece.now; ended = false; failed = failed }) desk.new)) }
+    ensures in_part { OnErr result ((bytes : List ℕ) (failed : Bool) →
+        IsCaughtUp reader.old desk.old bytes → AsksFirst
+        (record { bytes = bytes ++ piece.now; ended = false; failed = failed }) desk.new.board) }
+    ensures writes { OnOk result
+        (Shows trace desk.old desk.new (O.taken out.old) (O.taken out.new)) }
+    ensures breaks { OnErr result
+        (ShowsFront trace desk.old desk.new (O.taken out.old) (O.taken out.new)) }
     ensures cause { HasCause (O.faults out.old) (O.faults out.new) result }
 {
     match reader.feed(piece) {
-        Ok(fed) => answer_fed(desk, command, fed, out),
+        Ok(fed) => answer_fed(desk, trace, fed, out),
         Err(_) => Ok(Some(Ending::Exhausted)),
     }
 }
@@ -129,21 +146,25 @@ fn answer_piece<O: Sink>(
 fn answer_rest<O: Sink>(
     reader: Reader,
     desk: &mut Desk,
-    command: Command,
+    trace: bool,
     out: &mut O,
 ) -> Result<Ending, Failed>
-    requires ready { IsReady command desk.old }
-    ensures ready { IsReady command desk.new }
-    ensures through { IfOk result (λ ending. (bytes : List ℕ) (failed : Bool) → failed ≡ false → IsCaughtUp reader desk.old bytes →
+    requires between { IsBetweenPieces desk.old }
+    ensures between { IsBetweenPieces desk.new }
+    ensures rules { desk.new.board.rules ≡ desk.old.board.rules }
+    ensures through { IfOk result (λ ending. (bytes : List ℕ) (failed : Bool) →
+        failed ≡ false → IsCaughtUp reader desk.old bytes →
         IsThrough ending (record { bytes = bytes; ended = true; failed = failed }) desk.new) }
     ensures in_part { OnErr result ((bytes : List ℕ) (failed : Bool) → IsCaughtUp reader desk.old bytes →
-        IsBegun (record { bytes = bytes; ended = true; failed = failed }) desk.new) }
-    ensures writes { OnOk result (Writes command.trace desk.old desk.new (O.taken out.old) (O.taken out.new)) }
-    ensures breaks { OnErr result (Breaks command.trace desk.old desk.new (O.taken out.old) (O.taken out.new)) }
+        AsksFirst (record { bytes = bytes; ended = true; failed = failed }) desk.new.board) }
+    ensures writes { OnOk result
+        (Shows trace desk.old desk.new (O.taken out.old) (O.taken out.new)) }
+    ensures breaks { OnErr result
+        (ShowsFront trace desk.old desk.new (O.taken out.old) (O.taken out.new)) }
     ensures cause { HasCause (O.faults out.old) (O.faults out.new) result }
 {
     match reader.finish() {
-        Ok(fed) => match answer_fed(desk, command, fed, out)? {
+        Ok(fed) => match answer_fed(desk, trace, fed, out)? {
             Some(ending) => Ok(ending),
             None => Ok(Ending::Complete(desk.board.jobs() as u64)),
         },
@@ -155,22 +176,26 @@ fn answer_rest<O: Sink>(
 // runs out.
 fn answer_fed<O: Sink>(
     desk: &mut Desk,
-    command: Command,
+    trace: bool,
     fed: Fed,
     out: &mut O,
 ) -> Result<Option<Ending>, Failed>
-    requires ready { IsReady command desk.old }
-    ensures ready { IsReady command desk.new }
+    requires between { IsBetweenPieces desk.old }
+    ensures between { IsBetweenPieces desk.new }
+    ensures rules { desk.new.board.rules ≡ desk.old.board.rules }
     ensures stops { IfOk result (λ stop. MatchOption stop
-        ((fed.fault ≡ None) × Adds desk.old desk.new fed.statements × IsDone desk.new)
+        ((fed.fault ≡ None) × Answers desk.old desk.new fed.statements)
         (λ ending. StopsBy ending fed.fault desk.old desk.new fed.statements)) }
-    ensures first { OnErr result (AddsFirst desk.old desk.new fed.statements) }
-    ensures writes { OnOk result (Writes command.trace desk.old desk.new (O.taken out.old) (O.taken out.new)) }
-    ensures breaks { OnErr result (Breaks command.trace desk.old desk.new (O.taken out.old) (O.taken out.new)) }
+    ensures first { OnErr result
+        (AddsFirst desk.old.client desk.old.board desk.new.board fed.statements) }
+    ensures writes { OnOk result
+        (Shows trace desk.old desk.new (O.taken out.old) (O.taken out.new)) }
+    ensures breaks { OnErr result
+        (ShowsFront trace desk.old desk.new (O.taken out.old) (O.taken out.new)) }
     ensures cause { HasCause (O.faults out.old) (O.faults out.new) result }
 {
-    let advanced = desk.advance(command, fed.statements.into_items());
-    match desk.write_settled(command, out) {
+    let advanced = desk.advance(fed.statements.into_items());
+    match desk.writer.write_settled(&desk.board, trace, out) {
         Ok(()) => Ok(ending_behind(advanced, fed.fault)),
         Err(Halt::Memory) => Ok(Some(Ending::Exhausted)),
         Err(Halt::Unwritten) => Err(Failed),

@@ -10,7 +10,8 @@ use Rattle.sat_base.proofs.Opposite.{opposite-opposite}
 use Rattle.sat_base.proofs.Members.{Contains-here, Contains-there}
 use Rattle.trace_core.specs.Propagation.{StandsInOneOf}
 use Rattle.trace_core.specs.Marking.{holds, is_uncovered, is_held_mark, is_uncovered_mark, Agree, AreFree, HasRoom, CoveredBy}
-use Rattle.trace_core.proofs.MarkLemmas.{marked_within, mark_written, mark_other, seen_more, nothing_in}
+use Rattle.trace_core.proofs.MarkLemmas.{marked_within, mark_written, mark_other, seen_more}
+use Rattle.trace_core.proofs.Items.{nothing_in}
 use Rattle.trace_core.proofs.UnitLemmas.{agree_added}
 use Rattle.trace_core.specs.declared.marks.Mark.{Mark}
 use Rattle.trace_core.specs.declared.marks.Mark.TheVariants.{Free, Held, Uncovered}
@@ -29,9 +30,17 @@ held_if_uncovered Uncovered h = h
 
 pub assumed_none : (marks : List Mark) (lits : List ℕ) → AreFree marks → lits ≡ [] → Assumed [] marks lits
 assumed_none marks lits free empty = record {
-  agree = λ lit. (λ h. absurd (both_ways (holds marks lit) (free lit) h), λ h. nothing_in lit (subst (λ (ls : List ℕ). Contains ls lit) empty h));
+  agree = λ lit. (
+    λ h. absurd (both_ways (holds marks lit) (free lit) h),
+    λ h. absurd
+        (nothing_in lit (subst (λ (ls : List ℕ). Contains ls lit) empty h)),
+  );
   negations = empty;
-  uncovered = λ lit. (λ h. absurd (both_ways (holds marks lit) (free lit) (held_if_uncovered (get_or marks lit Free) h)), λ h. nothing_in (opposite lit) h);
+  uncovered = λ lit. (
+    λ h. absurd (both_ways (holds marks lit) (free lit)
+        (held_if_uncovered (get_or marks lit Free) h)),
+    λ h. absurd (nothing_in (opposite lit) h),
+  );
 }
 
 -- one more literal is assumed false
@@ -93,7 +102,7 @@ not_covered clause i marks lit code lt is at uncovered each =
 
 -- what the joined literals of clauses have, one of the clauses has
 in_one : (clauses : List (List ℕ)) (lit : ℕ) → Contains (concat clauses) lit → StandsInOneOf clauses lit
-in_one [] lit none = nothing_in lit none
+in_one [] lit none = absurd (nothing_in lit none)
 in_one (clause ∷ clauses) lit has = first_or_later (λ h. in_one clauses lit h) (Contains-append_cases clause (concat clauses) lit has)
   where
     first_or_later : (Contains (concat clauses) lit → StandsInOneOf clauses lit) → Contains clause lit ⊎ Contains (concat clauses) lit → StandsInOneOf (clause ∷ clauses) lit

@@ -1,5 +1,7 @@
 -- Marks of literals, and what a scan of a clause finds.
-use Rattle.std.proofs.Common.{◌≡◌, ◌≢◌, ◌∙◌, ℕ, ◌+◌, ◌<◌, ◌≤◌, List, [], ◌∷◌, ◌++◌, take, length, get_or, set, true, false, refl, ap, subst, sym, inl, inr, arith, get_or-set_same, get_or-set_other}
+use Rattle.std.proofs.Common.{◌≡◌, ◌≢◌, ◌∙◌, ℕ, ◌+◌, ◌<◌, ◌≤◌, List, [], ◌∷◌, ◌++◌, take, length}
+use Rattle.std.proofs.Common.{get_or, set, true, false, refl, ap, subst, sym, inl, inr}
+use Rattle.std.proofs.Common.{get_or-set_same, get_or-set_other}
 use Rattle.std.specs.Prelude.{IsTrue, Contains, ◌⊎◌}
 use Rattle.std.proofs.lemmas.Bool.{both_ways, cases_eq, cases_lt}
 use Rattle.std.proofs.lemmas.List.{take_more, take_all, get_or_past}
@@ -11,9 +13,7 @@ use Rattle.trace_core.specs.declared.marks.Mark.{Mark}
 use Rattle.trace_core.specs.declared.marks.Mark.TheVariants.{Free, Held, Uncovered}
 use Rattle.trace_core.specs.declared.marks.Found.{Found}
 use Rattle.trace_core.specs.declared.marks.Found.TheVariants.{Nothing, One, More}
-
-pub nothing_in : {X : Type 0} {A : Type 0} (x : X) → Contains [] x → A
-nothing_in x (k, lt, is) = absurd (omega arith)
+use Rattle.trace_core.proofs.Items.{nothing_in}
 
 -- a scan that has looked at nothing
 pub found_none : (marks : List Mark) → IsFound marks [] Nothing

@@ -1,6 +1,8 @@
 -- What ok steps prove is entailed.
-use Rattle.std.proofs.Common.{◌≡◌, ◌∙◌, ℕ, zero, suc, ◌-◌, ◌≤◌, List, [], ◌∷◌, ◌++◌, map, Bool, true, false, not, Option, Some, None, cond, refl, ap, subst, sym, inl, inr, arith}
-use Rattle.std.specs.Prelude.{IsTrue, IsSome, Contains, ◌⊎◌, ◌==◌, slice_get, nat_le, option_and_then}
+use Rattle.std.proofs.Common.{◌≡◌, ◌∙◌, ℕ, zero, suc, ◌≤◌, List, [], ◌∷◌, ◌++◌, map, Bool, true}
+use Rattle.std.proofs.Common.{false, not, Option, Some, None, cond, refl, ap, subst, sym, inl, inr}
+use Rattle.std.proofs.Common.{arith}
+use Rattle.std.specs.Prelude.{IsTrue, IsSome, Contains, ◌⊎◌, ◌==◌, nat_le, option_and_then}
 use Rattle.std.specs.List.{filter}
 use Rattle.std.proofs.lemmas.Bool.{both_ways, and_parts, cases_Bool, cases_eq}
 use Rattle.std.proofs.lemmas.Bool.Decides.{nat_tests}
@@ -17,6 +19,8 @@ use Rattle.trace_core.specs.Propagation.{IsFalsified, IsUnit, ReachesConflict, I
 use Rattle.trace_core.specs.Trace.{IsOkStep, greatest, known_of, AreOkSteps}
 use Rattle.trace_core.specs.Law.{OkStepStaysOk, StepIsSound, ProofIsSound, TautologyHolds, clauses_up_to, TagBoundsInputs, TraceIsSound}
 use Rattle.trace_core.specs.declared.derivation.Step.{Step}
+pub use Rattle.trace_core.proofs.Items.{item_at-contains}
+use Rattle.trace_core.proofs.Items.{nothing_in, Contains-from_filter}
 
 -- a true literal isn't false
 not_both : (values : List Bool) (lit : ℕ) → IsTrue (lit_true values lit) → IsTrue (lit_true values (opposite lit)) → ⊥
@@ -108,18 +112,43 @@ same_over f g (hint ∷ hints) same =
     let rest : map f hints ≡ map g hints = same_over f g hints (λ h has. same h (Contains-there hint h hints has)) in
     cc
 
-pub ok_step_stays_ok : OkStepStaysOk
-ok_step_stays_ok table more step keeps ok = record {
-  all_known = All-from_members (λ hint. IsSome (more hint)) step.hints (λ hint has. subst IsSome (agree hint has) (known_here hint has));
-  proved = subst (λ hinted. IsProved hinted step.clause) (same_over (λ hint. clause_of (table hint)) (λ hint. clause_of (more hint)) step.hints (λ hint has. ap clause_of (agree hint has))) ok.proved;
-  exact_tag = ok.exact_tag ∙ ap greatest (same_over (λ hint. tag_of (table hint)) (λ hint. tag_of (more hint)) step.hints (λ hint has. ap tag_of (agree hint has)));
+-- The tag of what a hint of an ok step names is at most the step's.
+pub hint_tag_within : (table : Ref → Option Known) (step : Step) (hint : Ref) (named : Known)
+    → IsOkStep table step
+    → Contains step.hints hint → table hint ≡ Some named → named.tag ≤ step.tag
+hint_tag_within table step hint named ok has is =
+    subst (λ bound. named.tag ≤ bound) (sym ok.exact_tag)
+    (subst (λ tag. tag ≤ greatest (map (λ h. tag_of (table h)) step.hints)) (ap tag_of is)
+    (at_most_greatest (map (λ h. tag_of (table h)) step.hints) (tag_of (table hint))
+    (Contains-map (λ h. tag_of (table h)) step.hints hint has)))
+
+pub stays_ok_up_to_tag : OkStepStaysOk
+stays_ok_up_to_tag table more step keeps ok = record {
+  all_known = All-from_members (λ hint. IsSome (more hint)) step.hints
+      (λ hint has. subst IsSome (agree hint has) (known_here hint has));
+  proved = subst (λ hinted. IsProved hinted step.clause)
+      (same_over (λ hint. clause_of (table hint)) (λ hint. clause_of (more hint)) step.hints
+      (λ hint has. ap clause_of (agree hint has))) ok.proved;
+  exact_tag = ok.exact_tag
+      ∙ ap greatest (same_over (λ hint. tag_of (table hint)) (λ hint. tag_of (more hint)) step.hints
+      (λ hint has. ap tag_of (agree hint has)));
 }
   where
     known_here : (hint : Ref) → Contains step.hints hint → IsSome (table hint)
     known_here hint has = All-contains (λ h. IsSome (table h)) step.hints hint ok.all_known has
 
     agree : (hint : Ref) → Contains step.hints hint → table hint ≡ more hint
-    agree hint has = let named = named_of (table hint) (known_here hint has) in named.1 ∙ sym (keeps hint named.0 named.1)
+    agree hint has =
+        let named = named_of (table hint) (known_here hint has) in
+        named.1 ∙ sym (keeps hint named.0 (hint_tag_within table step hint named.0 ok has named.1)
+        named.1)
+
+-- An ok step stays ok where more clauses are known.
+pub ok_step_stays_ok : (table more : Ref → Option Known) (step : Step)
+    → ((name : Ref) (named : Known) → table name ≡ Some named → more name ≡ Some named)
+    → IsOkStep table step → IsOkStep more step
+ok_step_stays_ok table more step keeps ok =
+    stays_ok_up_to_tag table more step (λ name named low is. keeps name named is) ok
 
 -- what each known clause follows from, the clause of an ok step follows from
 through_hints : (clauses : List (List ℕ)) (table : Ref → Option Known) (step : Step) → IsOkStep table step
@@ -132,18 +161,6 @@ through_hints clauses table step ok each =
         let m = Contains-from_map (λ hint. clause_of (table hint)) step.hints c has in
         let named = named_of (table m.0) (All-contains (λ hint. IsSome (table hint)) step.hints m.0 ok.all_known m.1) in
         subst (Entails clauses) (sym named.2 ∙ m.2) (each m.0 named.0 m.1 named.1)
-
-Contains-from_filter : {X : Type 0} (p : X → Bool) (xs : List X) (x : X) → Contains (filter p xs) x → Contains xs x × IsTrue (p x)
-Contains-from_filter p [] x (k, lt, is) = absurd (omega arith)
-Contains-from_filter p (y ∷ xs) x has = by_test (λ h. Contains-from_filter p xs x h) (cases_Bool (p y)) has
-  where
-    in_front : (Contains (filter p xs) x → Contains xs x × IsTrue (p x)) → IsTrue (p y) → (y ≡ x) ⊎ Contains (filter p xs) x → Contains (y ∷ xs) x × IsTrue (p x)
-    in_front recur pass (inl same) = (subst (Contains (y ∷ xs)) same (Contains-here y xs), ap p (sym same) ∙ pass)
-    in_front recur pass (inr later) = let h = recur later in (Contains-there y x xs h.0, h.1)
-
-    by_test : (Contains (filter p xs) x → Contains xs x × IsTrue (p x)) → (p y ≡ true) ⊎ (p y ≡ false) → Contains (cond (p y) (y ∷ filter p xs) (filter p xs)) x → Contains (y ∷ xs) x × IsTrue (p x)
-    by_test recur (inl pass) h = in_front recur pass (Contains-cases y x (filter p xs) (subst (λ b. Contains (cond b (y ∷ filter p xs) (filter p xs)) x) pass h))
-    by_test recur (inr fail) h = let m = recur (subst (λ b. Contains (cond b (y ∷ filter p xs) (filter p xs)) x) fail h) in (Contains-there y x xs m.0, m.1)
 
 -- more inputs count up to a greater tag
 up_to_grows : (inputs : List Known) (low high : ℕ) (clause : List ℕ) → low ≤ high → Entails (clauses_up_to inputs low) clause → Entails (clauses_up_to inputs high) clause
@@ -166,46 +183,23 @@ pub tag_bounds_inputs : TagBoundsInputs
 tag_bounds_inputs inputs table step each ok =
     through_hints (clauses_up_to inputs step.tag) table step ok
     (λ hint named has is. up_to_grows inputs named.tag step.tag named.clause
-    (subst (λ bound. named.tag ≤ bound) (sym ok.exact_tag)
-    (subst (λ tag. tag ≤ greatest (map (λ h. tag_of (table h)) step.hints)) (ap tag_of is)
-    (at_most_greatest (map (λ h. tag_of (table h)) step.hints) (tag_of (table hint)) (Contains-map (λ h. tag_of (table h)) step.hints hint has))))
-    (each hint named is))
+    (hint_tag_within table step hint named ok has is) (each hint named is))
 
--- an item of a list with one more at its end
-slice_get-push : {X : Type 0} (xs : List X) (y : X) (i : ℕ) (z : X) → slice_get (xs ++ y ∷ []) i ≡ Some z → (slice_get xs i ≡ Some z) ⊎ (y ≡ z)
-slice_get-push [] y zero z is = inr (cc)
-slice_get-push [] y (suc i) z is = absurd (cc)
-slice_get-push (x ∷ xs) y zero z is = inl is
-slice_get-push (x ∷ xs) y (suc i) z is = slice_get-push xs y i z is
-
-pub item_at-push : {X : Type 0} (xs : List X) (y : X) (place : ℕ) (z : X) → item_at (xs ++ y ∷ []) place ≡ Some z → (item_at xs place ≡ Some z) ⊎ (y ≡ z)
-item_at-push xs y place z = guarded (place == 0)
+-- Without packets a reference to a step of one names nothing.
+pub no_shared : (packet step : ℕ)
+    → IsSome (option_and_then (λ (steps : List Known). item_at steps step) (item_at [] packet)) → ⊥
+no_shared packet step = guarded (packet == 0)
   where
-    guarded : (b : Bool) → cond b None (slice_get (xs ++ y ∷ []) (place - 1)) ≡ Some z → (cond b None (slice_get xs (place - 1)) ≡ Some z) ⊎ (y ≡ z)
-    guarded true is = inl is
-    guarded false is = slice_get-push xs y (place - 1) z is
+    guarded : (b : Bool)
+        → IsSome (option_and_then (λ (steps : List Known). item_at steps step) (cond b None None))
+        → ⊥
+    guarded true some = cc
+    guarded false some = cc
 
-slice_get-contains : {X : Type 0} (xs : List X) (i : ℕ) (x : X) → slice_get xs i ≡ Some x → Contains xs x
-slice_get-contains [] i x is = absurd (cc)
-slice_get-contains (y ∷ xs) zero x is = let same : y ≡ x = cc in subst (Contains (y ∷ xs)) same (Contains-here y xs)
-slice_get-contains (y ∷ xs) (suc i) x is = Contains-there y x xs (slice_get-contains xs i x is)
-
-pub item_at-contains : {X : Type 0} (xs : List X) (place : ℕ) (x : X) → item_at xs place ≡ Some x → Contains xs x
-item_at-contains xs place x = guarded (place == 0)
-  where
-    guarded : (b : Bool) → cond b None (slice_get xs (place - 1)) ≡ Some x → Contains xs x
-    guarded true is = absurd (cc)
-    guarded false is = slice_get-contains xs (place - 1) x is
-
-nothing_in : {X : Type 0} (x : X) → Contains [] x → ⊥
-nothing_in x (k, lt, is) = omega arith
-
-pub nothing_shared : (packet step : ℕ) (named : Known) → option_and_then (λ (steps : List Known). item_at steps step) (item_at [] packet) ≡ Some named → ⊥
-nothing_shared packet step named = guarded (packet == 0)
-  where
-    guarded : (b : Bool) → option_and_then (λ (steps : List Known). item_at steps step) (cond b None None) ≡ Some named → ⊥
-    guarded true is = cc
-    guarded false is = cc
+pub nothing_shared : (packet step : ℕ) (named : Known)
+    → option_and_then (λ (steps : List Known). item_at steps step) (item_at [] packet) ≡ Some named
+    → ⊥
+nothing_shared packet step named is = no_shared packet step (subst IsSome (sym is) refl)
 
 -- Over inputs and own steps, where each own step's clause follows from the inputs, so does each known clause.
 known_follow : (inputs own : List Known) → ((k : Known) → Contains own k → Entails (map (λ input. input.clause) inputs) k.clause)

@@ -1,12 +1,12 @@
 -- A step that isn't a tautology is ok exactly where its hints derive its clause.
 use Rattle.std.proofs.Common.{◌≡◌, ◌∙◌, ℕ, List, map, Bool, Option, Some, None, refl, ap, subst, sym, inl, inr}
-use Rattle.std.specs.Prelude.{IsTrue, IsSome, All, Contains, ◌↔◌}
-use Rattle.sat_base.specs.Lit.{opposite, IsTautology}
+use Rattle.std.specs.Prelude.{IsTrue, IsSome, All, ◌↔◌}
+use Rattle.sat_base.specs.Lit.{IsTautology}
 use Rattle.sat_base.specs.declared.origins.Ref.{Ref}
 use Rattle.sat_base.specs.declared.origins.Ref.TheVariants.{Input, Shared, Own}
 use Rattle.sat_base.proofs.Members.{Contains-from_map}
 use Rattle.trace_core.specs.Known.{Known, item_at, clause_of, tag_of}
-use Rattle.trace_core.specs.Propagation.{StandsInOneOf, ReachesConflict, IsProved}
+use Rattle.trace_core.specs.Propagation.{Derive, IsProved}
 use Rattle.trace_core.specs.Trace.{IsOkStep, greatest}
 use Rattle.trace_core.specs.Marking.{HasRoom}
 use Rattle.trace_core.specs.Checked.{known_to, hinted, HaveRoom}
@@ -33,7 +33,7 @@ hinted_room size inputs steps hints inputs_room steps_room clause has =
 -- the parts of an ok step, where its clause is no tautology
 pub ok_exactly : (table : Ref → Option Known) (step : Step) (clause : List ℕ) (hints : List Ref) (tag : ℕ) (b : Bool) → hints ≡ step.hints → clause ≡ step.clause → tag ≡ step.tag
     → All (λ hint. IsSome (table hint)) hints → tag ≡ greatest (map (λ hint. tag_of (table hint)) hints) → ¬ IsTautology step.clause
-    → IsTrue b ↔ (((lit : ℕ) → Contains clause lit → StandsInOneOf (map (λ hint. clause_of (table hint)) hints) lit) × ReachesConflict (map opposite clause) (map (λ hint. clause_of (table hint)) hints))
+    → IsTrue b ↔ Derive (map (λ hint. clause_of (table hint)) hints) clause
     → IsTrue b ↔ IsOkStep table step
 ok_exactly table step clause hints tag b same_hints same_clause same_tag all_known greatest_is proper derived = (
   λ h. record {
@@ -46,6 +46,7 @@ ok_exactly table step clause hints tag b same_hints same_clause same_tag all_kno
   λ ok. derived.1 (parts (subst (λ c. IsProved (map (λ hint. clause_of (table hint)) hints) c) (sym same_clause) (subst (λ hs. IsProved (map (λ hint. clause_of (table hint)) hs) step.clause) (sym same_hints) ok.proved))),
 )
   where
-    parts : IsProved (map (λ hint. clause_of (table hint)) hints) clause → ((lit : ℕ) → Contains clause lit → StandsInOneOf (map (λ hint. clause_of (table hint)) hints) lit) × ReachesConflict (map opposite clause) (map (λ hint. clause_of (table hint)) hints)
+    parts : IsProved (map (λ hint. clause_of (table hint)) hints) clause
+        → Derive (map (λ hint. clause_of (table hint)) hints) clause
     parts (inl excluded) = absurd (proper (subst IsTautology same_clause excluded.tautology))
     parts (inr is) = (is.covered, is.conflict)

@@ -1,5 +1,6 @@
 -- The greatest tag among known clauses, and whether all are known.
-use Rattle.std.proofs.Common.{◌≡◌, ◌∙◌, ℕ, ◌+◌, ◌<◌, ◌≤◌, List, map, take, drop, length, get_or, max, Option, Some, refl, ap, subst, sym, arith}
+use Rattle.std.proofs.Common.{◌≡◌, ◌∙◌, ℕ, ◌+◌, ◌<◌, ◌≤◌, List, [], ◌∷◌, ◌++◌, map, take, drop}
+use Rattle.std.proofs.Common.{length, get_or, max, Option, Some, refl, ap, subst, sym, arith}
 use Rattle.std.specs.Prelude.{IsSome, All}
 use Rattle.std.proofs.lemmas.List.{at_drop_more, take_all}
 use Rattle.std.proofs.lemmas.List.Elements.{All-more, All-same}
@@ -18,6 +19,13 @@ known_whole table hints i le before = All-same (λ hint. IsSome (table hint)) hi
 
 max_assoc : (a b c : ℕ) → max (max a b) c ≡ max a (max b c)
 max_assoc a b c = grind arith
+
+-- The greatest number of a list with one more at its end.
+pub greatest_push : (numbers : List ℕ) (n : ℕ)
+    → greatest (numbers ++ n ∷ []) ≡ max (greatest numbers) n
+greatest_push [] n = omega arith
+greatest_push (m ∷ numbers) n =
+    ap (max m) (greatest_push numbers n) ∙ sym (max_assoc m (greatest numbers) n)
 
 -- one more tag
 pub tag_more : (table : Ref → Option Known) (hints : List Ref) (i most most' : ℕ) (named : Known) → i < length hints → table (get_or hints i (Input 0)) ≡ Some named → most' ≡ max most named.tag

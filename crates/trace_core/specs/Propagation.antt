@@ -24,6 +24,11 @@ ReachesConflict set (hint ∷ next ∷ hints) = (lit : ℕ) × IsUnit set hint l
 abbrev pub StandsInOneOf : List (List ℕ) → ℕ → Type 0
 StandsInOneOf clauses lit = (clause : List ℕ) × Contains clauses clause × Contains clause lit
 
+-- The hinted clauses have each literal of the clause, and lead to a conflict from the negations.
+abbrev pub Derive : List (List ℕ) → List ℕ → Type 0
+Derive hinted clause = ((lit : ℕ) → Contains clause lit → StandsInOneOf hinted lit)
+    × ReachesConflict (map opposite clause) hinted
+
 -- the negations of the clause's literals lead to a conflict over the hinted clauses
 pub record IsDerived (hinted : List (List ℕ)) (clause : List ℕ) : Type 0 where
   pub proper : ¬ IsTautology clause

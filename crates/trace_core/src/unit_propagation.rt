@@ -3,7 +3,7 @@
 ghost use Rattle.std.specs.Prelude.{◌≡◌, ℕ, ◌<◌, ◌↔◌, true, false, List, [], ◌∷◌, ◌++◌, length, map, Contains, IsTrue, IfOk, Ok, MatchBool};
 ghost use Rattle.std.specs.List.{concat};
 ghost use Rattle.sat_base.specs.Lit.{opposite};
-ghost use Rattle.trace_core.specs.Propagation.{IsUnit, ReachesConflict, StandsInOneOf};
+ghost use Rattle.trace_core.specs.Propagation.{Derive, IsUnit, ReachesConflict};
 ghost use Rattle.trace_core.specs.Marking.{holds, is_uncovered, Agree, AreFree, HasRoom, CoveredBy};
 ghost use Rattle.trace_core.specs.Checked.{hinted, HaveRoom};
 
@@ -115,7 +115,8 @@ fn follow(
     requires free { AreFree marks.old }
     requires empty { set.old.items ≡ [] }
     ensures agree { Agree marks.new set.new.items }
-    ensures derived { IfOk result (λ derived. IsTrue derived ↔ (((lit : ℕ) → Contains clause.now lit → StandsInOneOf (hinted database.now.inputs database.now.steps hints.now) lit) × ReachesConflict (map opposite clause.now) (hinted database.now.inputs database.now.steps hints.now))) }
+    ensures derived { IfOk result (λ derived. IsTrue derived
+        ↔ Derive (hinted database.now.inputs database.now.steps hints.now) clause.now) }
 {
     assume_false(marks, set, clause)?;
     if !propagate(marks, set, database, hints)? {
@@ -149,7 +150,8 @@ pub(crate) fn derives(
     requires room { HaveRoom (length marks.old) (hinted database.now.inputs database.now.steps hints.now) }
     requires free { AreFree marks.old }
     requires empty { set.old.items ≡ [] }
-    ensures derived { IfOk result (λ derived. IsTrue derived ↔ (((lit : ℕ) → Contains clause.now lit → StandsInOneOf (hinted database.now.inputs database.now.steps hints.now) lit) × ReachesConflict (map opposite clause.now) (hinted database.now.inputs database.now.steps hints.now))) }
+    ensures derived { IfOk result (λ derived. IsTrue derived
+        ↔ Derive (hinted database.now.inputs database.now.steps hints.now) clause.now) }
     ensures free { AreFree marks.new }
     ensures empty { set.new.items ≡ [] }
 {

@@ -21,7 +21,9 @@ pub(crate) struct TraceLine {
 
 // Hints behind one another, and `0`.
 fn read_hints(alloc: Global, tokens: &[u8]) -> Result<Option<Vec<u64>>, AllocError>
-    ensures { IfOk result (λ found. option_map (λ hints. hints.items) found ≡ all_then_zero number_of (tokens_of tokens.now)) }
+    ensures { IfOk result
+        (λ found. option_map (λ hints. hints.items) found
+        ≡ all_then_zero number_of (tokens_of tokens.now)) }
 {
     let mut hints = Vec::new(alloc);
     let mut rest = tokens;
@@ -40,8 +42,12 @@ fn read_hints(alloc: Global, tokens: &[u8]) -> Result<Option<Vec<u64>>, AllocErr
 
 // The literals and hints behind an identifier.
 fn read_fields(alloc: Global, id: u64, tokens: &[u8]) -> Result<Option<TraceLine>, AllocError>
-    ensures value { IfOk result (λ found. option_map (λ line. record { id = line.id; lits = line.lits.items; hints = line.hints.items }) found ≡ fields_of id (tokens_of tokens.now)) }
-    ensures ascending { IfOk result (λ found. IfSome found (λ line. IsTrue (is_ascending line.lits.items))) }
+    ensures value { IfOk result
+        (λ found. option_map
+        (λ line. record { id = line.id; lits = line.lits.items; hints = line.hints.items }) found
+        ≡ fields_of id (tokens_of tokens.now)) }
+    ensures ascending { IfOk result
+        (λ found. IfSome found (λ line. IsTrue (is_ascending line.lits.items))) }
 {
     let Some((lits, rest)) = lits_before_zero(alloc, tokens)? else {
         return Ok(None);
@@ -57,8 +63,12 @@ fn read_fields(alloc: Global, id: u64, tokens: &[u8]) -> Result<Option<TraceLine
 
 /// What a line without its line feed says, `None` where it isn't of the form.
 pub(crate) fn read_line(alloc: Global, line: &[u8]) -> Result<Option<TraceLine>, AllocError>
-    ensures value { IfOk result (λ found. option_map (λ line. record { id = line.id; lits = line.lits.items; hints = line.hints.items }) found ≡ line_of line.now) }
-    ensures ascending { IfOk result (λ found. IfSome found (λ line. IsTrue (is_ascending line.lits.items))) }
+    ensures value { IfOk result
+        (λ found. option_map
+        (λ line. record { id = line.id; lits = line.lits.items; hints = line.hints.items }) found
+        ≡ line_of line.now) }
+    ensures ascending { IfOk result
+        (λ found. IfSome found (λ line. IsTrue (is_ascending line.lits.items))) }
 {
     let Some((letter, tokens)) = cut_at(line, b' ') else {
         return Ok(None);

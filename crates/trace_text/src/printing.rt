@@ -28,7 +28,9 @@ fn number_of(inputs: u64, hint: Ref) -> u64
 // Adds the numbers of hints, each with a space behind it.
 fn print_hints(out: &mut Vec<u8>, inputs: u64, hints: &[Ref]) -> Result<(), AllocError>
     requires { All (λ hint. number_of_hint inputs hint < 2 ^ 64) hints.now }
-    ensures { OnOk result (out.new.items ≡ out.old.items ++ flat_map hint_text (map (number_of_hint inputs) hints.now)) }
+    ensures { OnOk result
+        (out.new.items
+        ≡ out.old.items ++ flat_map hint_text (map (number_of_hint inputs) hints.now)) }
 {
     for hint in hints {
         print_number(out, number_of(inputs, *hint))?;
@@ -40,7 +42,15 @@ fn print_hints(out: &mut Vec<u8>, inputs: u64, hints: &[Ref]) -> Result<(), Allo
 // Adds the line of a step.
 fn print_step(out: &mut Vec<u8>, inputs: u64, id: u64, step: &Step) -> Result<(), AllocError>
     requires { All (λ hint. number_of_hint inputs hint < 2 ^ 64) step.now.hints }
-    ensures { OnOk result (out.new.items ≡ out.old.items ++ line_text (record { id = id; lits = step.now.clause; hints = map (number_of_hint inputs) step.now.hints })) }
+    ensures { OnOk result
+        (out.new.items
+        ≡ out.old.items
+        ++ line_text
+        (record {
+          id = id;
+          lits = step.now.clause;
+          hints = map (number_of_hint inputs) step.now.hints;
+        })) }
 {
     out.extend_from_slice(b"t ")?;
     print_number(out, id)?;
@@ -63,7 +73,8 @@ fn print_lines(out: &mut Vec<u8>, inputs: u64, steps: &[Step]) -> Result<(), All
     Ok(())
 }
 
-// Each clause is a set of literals. Its type keeps that, and a proof sees it at a call on the clause.
+// Each clause is a set of literals. Its type keeps that, and a proof sees it at a call on the
+// clause.
 fn look_at(steps: &[Step])
     ensures { All (λ (step : Step). IsLitSet step.clause) steps.now }
 {
@@ -84,9 +95,9 @@ pub fn print_onto(out: &mut Vec<u8>, inputs: u64, steps: &[Step]) -> Result<(), 
     print_lines(out, inputs, steps)
 }
 
-/// The steps as trace lines: for the i-th step, counted from 1, the line `t ID LITS 0 HINTS 0` with `inputs`
-/// plus i as ID, the literals of its clause, and the numbers of its hints, an input's its own and the i-th
-/// step's `inputs` plus i.
+/// The steps as trace lines: for the i-th step, counted from 1, the line `t ID LITS 0 HINTS 0` with
+/// `inputs` plus i as ID, the literals of its clause, and the numbers of its hints, an input's its
+/// own and the i-th step's `inputs` plus i.
 pub fn print(alloc: Global, inputs: u64, steps: &[Step]) -> Result<Vec<u8>, AllocError>
     requires inputs { inputs ≤ 16777216 }
     requires earlier { CiteEarlier inputs 0 steps.now }

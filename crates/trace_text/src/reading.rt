@@ -1,11 +1,13 @@
 //! The steps of a text.
 
-ghost use Rattle.std.specs.Prelude.{List, ◌≡◌, ◌<◌, ◌≤◌, ◌^◌, ◌+◌, ◌-◌, ◌⊎◌, [], ◌∷◌, ◌++◌, length, map, nat_lt, slice_index, IfOk, OnOk, MatchResult, Ok, Err};
+ghost use Rattle.std.specs.Prelude.{List, ◌≡◌, ◌<◌, ◌≤◌, ◌^◌, ◌+◌, ◌-◌, ◌⊎◌, [], ◌∷◌, ◌++◌, length};
+ghost use Rattle.std.specs.Prelude.{map, nat_lt, slice_index, IfOk, OnOk, MatchResult, Ok, Err};
 ghost use Rattle.std.specs.List.{list_all};
 ghost use Rattle.trace_core.specs.declared.derivation.Step.{Step};
 ghost use Rattle.line_tokens.specs.Token.{lines_of};
 ghost use Rattle.trace_text.specs.Line.{Line};
-ghost use Rattle.trace_text.specs.Text.{ArePrinted, HaveExactTags, hint_of_number, is_in_order, next_step, steps_of_lines, tag_of_hints, tags_with};
+ghost use Rattle.trace_text.specs.Text.{ArePrinted, HaveExactTags, hint_of_number, is_in_order};
+ghost use Rattle.trace_text.specs.Text.{next_step, steps_of_lines, tag_of_hints, tags_with};
 
 use crate::TraceFault;
 use crate::lines::{TraceLine, read_line};
@@ -23,7 +25,9 @@ fn are_below(id: u64, hints: &[u64]) -> bool
 
 // Whether the identifier is the next number and each hint is smaller.
 fn stands_in_order(next: u64, line: &TraceLine) -> bool
-    ensures { result ≡ is_in_order next (record { id = line.now.id; lits = line.now.lits.items; hints = line.now.hints.items }) }
+    ensures { result
+        ≡ is_in_order next
+        (record { id = line.now.id; lits = line.now.lits.items; hints = line.now.hints.items }) }
 {
     if line.id != next {
         return false;
@@ -75,9 +79,9 @@ fn greatest_tag(tags: &[u32], steps: &[Step], numbers: &[u64]) -> u32
     most
 }
 
-/// The step that a line without its line feed says behind these steps, with its exact tag, where `tags` are
-/// those of the inputs. The line is `t ID LITS 0 HINTS 0` as `read` describes it. A fault names the line by
-/// its number among the lines of the steps.
+/// The step that a line without its line feed says behind these steps, with its exact tag, where
+/// `tags` are those of the inputs. The line is `t ID LITS 0 HINTS 0` as `read` describes it. A
+/// fault names the line by its number among the lines of the steps.
 pub fn read_step(
     alloc: Global,
     tags: &[u32],
@@ -85,7 +89,9 @@ pub fn read_step(
     line: &[u8],
 ) -> Result<Step, TraceFault>
     requires { length tags.now ≤ 4294967295 }
-    ensures { MatchResult result (λ step. next_step tags.now steps.now line.now ≡ Ok step) (λ fault. (fault ≡ TraceFault.Memory) ⊎ (next_step tags.now steps.now line.now ≡ Err fault)) }
+    ensures { MatchResult result (λ step. next_step tags.now steps.now line.now ≡ Ok step)
+        (λ fault. (fault ≡ TraceFault.Memory)
+        ⊎ (next_step tags.now steps.now line.now ≡ Err fault)) }
 {
     let inputs = tags.len() as u32;
     let number = steps.len() as u64 + 1;
@@ -114,7 +120,10 @@ fn add(steps: &mut Vec<Step>, step: Step) -> Result<(), AllocError>
 // The steps of a text, or the fault of its first wrong line.
 fn read_lines(alloc: Global, tags: &[u32], bytes: &[u8]) -> Result<Vec<Step>, TraceFault>
     requires { length tags.now ≤ 4294967295 }
-    ensures { MatchResult result (λ steps. steps_of_lines tags.now [] (lines_of bytes.now) ≡ Ok steps.items) (λ fault. (fault ≡ TraceFault.Memory) ⊎ (steps_of_lines tags.now [] (lines_of bytes.now) ≡ Err fault)) }
+    ensures { MatchResult result
+        (λ steps. steps_of_lines tags.now [] (lines_of bytes.now) ≡ Ok steps.items)
+        (λ fault. (fault ≡ TraceFault.Memory)
+        ⊎ (steps_of_lines tags.now [] (lines_of bytes.now) ≡ Err fault)) }
 {
     let mut steps = Vec::new(alloc);
     let mut rest = bytes;
@@ -129,20 +138,26 @@ fn read_lines(alloc: Global, tags: &[u32], bytes: &[u8]) -> Result<Vec<Step>, Tr
     Ok(steps)
 }
 
-/// The steps of a text of trace lines, with exact tags, where `tags` are those of the inputs. Line i, counted
-/// from 1, is `t ID LITS 0 HINTS 0` with one space between two tokens and a line feed at its end: ID is the
-/// number of inputs plus i, LITS are literals in strictly ascending order, and HINTS are numbers of inputs
-/// and of steps of earlier lines, all from 1 to 18446744073709551615 without leading zeros.
+/// The steps of a text of trace lines, with exact tags, where `tags` are those of the inputs. Line
+/// i, counted from 1, is `t ID LITS 0 HINTS 0` with one space between two tokens and a line feed at
+/// its end: ID is the number of inputs plus i, LITS are literals in strictly ascending order, and
+/// HINTS are numbers of inputs and of steps of earlier lines, all from 1 to 18446744073709551615
+/// without leading zeros.
 ///
-/// The fault is that of the first wrong line: `Form` where it isn't written so, `Order` where it is, but its
-/// ID isn't that number or a hint isn't smaller than its ID.
+/// The fault is that of the first wrong line: `Form` where it isn't written so, `Order` where it
+/// is, but its ID isn't that number or a hint isn't smaller than its ID.
 ///
-/// What `print` wrote for as many inputs as there are tags is read back as the same steps, where their tags
-/// are exact.
+/// What `print` wrote for as many inputs as there are tags is read back as the same steps, where
+/// their tags are exact.
 pub fn read(alloc: Global, tags: &[u32], bytes: &[u8]) -> Result<Vec<Step>, TraceFault>
     requires { length tags.now ≤ 4294967295 }
-    ensures exact { MatchResult result (λ steps. steps_of_lines tags.now [] (lines_of bytes.now) ≡ Ok steps.items) (λ fault. (fault ≡ TraceFault.Memory) ⊎ (steps_of_lines tags.now [] (lines_of bytes.now) ≡ Err fault)) }
-    ensures read_back { (steps : List Step) → ArePrinted (length tags.now) steps bytes.now → HaveExactTags tags.now [] steps → MatchResult result (λ read. read.items ≡ steps) (λ fault. fault ≡ TraceFault.Memory) }
+    ensures exact { MatchResult result
+        (λ steps. steps_of_lines tags.now [] (lines_of bytes.now) ≡ Ok steps.items)
+        (λ fault. (fault ≡ TraceFault.Memory)
+        ⊎ (steps_of_lines tags.now [] (lines_of bytes.now) ≡ Err fault)) }
+    ensures read_back { (steps : List Step) → ArePrinted (length tags.now) steps bytes.now
+        → HaveExactTags tags.now [] steps
+        → MatchResult result (λ read. read.items ≡ steps) (λ fault. fault ≡ TraceFault.Memory) }
 {
     read_lines(alloc, tags, bytes)
 }

@@ -1,15 +1,16 @@
 -- A binary search among names in their order finds each of them.
-use Rattle.std.proofs.Common.{◌≡◌, ℕ, zero, suc, ◌+◌, ◌-◌, ◌<◌, ◌≤◌, List, [], ◌∷◌, length, get_or, refl, subst, sym, ap, inl, inr, arith}
-use Rattle.std.specs.Prelude.{Contains, ◌⊎◌, Some, None, AllPairs, false, cond, ◌==◌, slice_get, Err}
+use Rattle.std.proofs.Common.{◌≡◌, ℕ, zero, suc, ◌+◌, ◌<◌, ◌≤◌, List, length, get_or, refl, subst}
+use Rattle.std.proofs.Common.{sym, ap, inl, inr, arith}
+use Rattle.std.specs.Prelude.{Contains, ◌⊎◌, Some, AllPairs, Err}
 use Rattle.std.specs.Ordering.{ordering_index}
 use Rattle.std.specs.declared.cmp.Ordering.{Ordering}
 use Rattle.std.specs.declared.cmp.Ordering.TheVariants.{Less, Equal, Greater}
 use Rattle.std.specs.List.Sorted.{IsBinarySearchResult, IsNonDecreasingBy}
 use Rattle.std.proofs.lemmas.Bool.{cases_eq}
-use Rattle.std.proofs.lemmas.Bool.Decides.{nat_tests}
 use Rattle.sat_base.specs.contracts.origins.RefOrd.TheImpl as ref_ord
 use Rattle.sat_base.specs.declared.origins.Ref.{Ref}
 use Rattle.trace_core.specs.Known.{item_at}
+pub use Rattle.trace_core.proofs.Items.{item_at-next}
 use Rattle.trace_trim.specs.Names.{IsBefore}
 use Rattle.trace_trim.proofs.Order.{before_trans, before-from_less, less-from_before, same-from_equal, not_before_itself, equal_itself}
 
@@ -21,18 +22,6 @@ either_side (suc k) (suc i) = deeper (either_side k i)
     deeper : (k < i) ⊎ (i ≤ k) → (suc k < suc i) ⊎ (suc i ≤ suc k)
     deeper (inl h) = inl (omega arith)
     deeper (inr h) = inr (omega arith)
-
-pub slice_get-is : {X : Type 0} (xs : List X) (i : ℕ) (x : X) → i < length xs → get_or xs i x ≡ x → slice_get xs i ≡ Some x
-slice_get-is [] i x lt is = absurd (omega arith)
-slice_get-is (y ∷ xs) zero x lt is = ap Some is
-slice_get-is (y ∷ xs) (suc i) x lt is = slice_get-is xs i x (omega arith) is
-
--- the item at a place that is counted from 1
-pub item_at-next : {X : Type 0} (xs : List X) (i : ℕ) (x : X) → i < length xs → get_or xs i x ≡ x → item_at xs (i + 1) ≡ Some x
-item_at-next xs i x lt is =
-    let not_first : (i + 1 == 0) ≡ false = grind (arith, nat_tests) in
-    let back : i + 1 - 1 ≡ i = omega arith in
-    subst (λ b. cond b None (slice_get xs (i + 1 - 1)) ≡ Some x) (sym not_first) (subst (λ n. slice_get xs n ≡ Some x) (sym back) (slice_get-is xs i x lt is))
 
 -- seen from one name, the answers of the order rise along the names
 index_rises : (a b x : Ref) → IsBefore a b → ordering_index ((ref_ord.cmp-value).it a x) ≤ ordering_index ((ref_ord.cmp-value).it b x)

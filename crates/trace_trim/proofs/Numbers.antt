@@ -9,7 +9,8 @@ use Rattle.std.proofs.lemmas.Bool.Decides.{nat_tests}
 use Rattle.std.proofs.lemmas.List.{get_or_default}
 use Rattle.std.proofs.lemmas.List.Sorted.{searched}
 use Rattle.trace_core.specs.Known.{item_at}
-use Rattle.trace_trim.proofs.Found.{either_side, item_at-next}
+use Rattle.trace_core.proofs.Items.{item_at-next}
+use Rattle.trace_trim.proofs.Found.{either_side}
 
 pub less_than-from_less : (m n : ℕ) → nat_cmp m n ≡ Less → m < n
 less_than-from_less m n is = grind (arith, nat_tests)

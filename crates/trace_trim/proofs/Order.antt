@@ -1,6 +1,7 @@
 -- The order of names, and a rank that rises with it.
 use Rattle.std.proofs.Common.{◌≡◌, ℕ, zero, suc, ◌+◌, ◌*◌, ◌-◌, ◌<◌, ◌≤◌, List, [], ◌∷◌, length, refl, subst, sym, ap, inl, inr, arith}
-use Rattle.std.specs.Prelude.{Contains, ◌⊎◌, Option, Some, None, IsSome, max, Bool, true, false, cond, ◌==◌, slice_get, option_and_then}
+use Rattle.std.specs.Prelude.{Contains, ◌⊎◌, Option, Some, None, IsSome, max, slice_get}
+use Rattle.std.specs.Prelude.{option_and_then}
 use Rattle.std.proofs.Math.Nat.{mul-le-mul_right}
 use Rattle.std.proofs.lemmas.Bool.Decides.{nat_tests}
 use Rattle.sat_base.proofs.Members.{Contains-here, Contains-there, Contains-cases}
@@ -9,6 +10,8 @@ use Rattle.sat_base.specs.contracts.origins.RefOrd.TheImpl as ref_ord
 use Rattle.sat_base.specs.declared.origins.Ref.{Ref}
 use Rattle.sat_base.specs.declared.origins.Ref.TheVariants.{Input, Shared, Own}
 use Rattle.trace_core.specs.Known.{item_at}
+use Rattle.trace_core.proofs.Items.{item_at-found}
+pub use Rattle.trace_core.proofs.Items.{item_at-within}
 use Rattle.trace_core.specs.declared.derivation.Step.{Step}
 use Rattle.trace_trim.specs.Names.{step_named, IsBefore}
 
@@ -44,21 +47,6 @@ rank packets (Input number) = 0
 rank packets (Shared packet step) = packet * suc (longest packets) + step
 rank packets (Own number) = suc (length packets) * suc (longest packets) + number
 
-slice_get-within : {X : Type 0} (xs : List X) (i : ℕ) → IsSome (slice_get xs i) → i < length xs
-slice_get-within [] i some = absurd (cc)
-slice_get-within (x ∷ xs) zero some = omega arith
-slice_get-within (x ∷ xs) (suc i) some = let h = slice_get-within xs i some in omega arith
-
-pub item_at-within : {X : Type 0} (xs : List X) (place : ℕ) → IsSome (item_at xs place) → (0 < place) × (place ≤ length xs)
-item_at-within xs place some = guarded (place == 0) refl some
-  where
-    guarded : (b : Bool) → (place == 0) ≡ b → IsSome (cond b None (slice_get xs (place - 1))) → (0 < place) × (place ≤ length xs)
-    guarded true is some = absurd (cc)
-    guarded false is some =
-        let h = slice_get-within xs (place - 1) some in
-        let positive : 0 < place = grind (arith, nat_tests) in
-        (positive, omega arith)
-
 slice_get-longest : (packets : List (List Step)) (i : ℕ) (packet : List Step) → slice_get packets i ≡ Some packet → length packet ≤ longest packets
 unfolding longest
 slice_get-longest [] i packet is = absurd (cc)
@@ -66,11 +54,8 @@ slice_get-longest (first ∷ packets) zero packet is = let same : first ≡ pack
 slice_get-longest (first ∷ packets) (suc i) packet is = let h = slice_get-longest packets i packet is in omega arith
 
 item_at-longest : (packets : List (List Step)) (place : ℕ) (packet : List Step) → item_at packets place ≡ Some packet → length packet ≤ longest packets
-item_at-longest packets place packet = guarded (place == 0)
-  where
-    guarded : (b : Bool) → cond b None (slice_get packets (place - 1)) ≡ Some packet → length packet ≤ longest packets
-    guarded true is = absurd (cc)
-    guarded false is = slice_get-longest packets (place - 1) packet is
+item_at-longest packets place packet is =
+    slice_get-longest packets (place - 1) packet (item_at-found packets place packet is).1
 
 shared_within : (packets : List (List Step)) (packet step : ℕ) → IsSome (option_and_then (λ (steps : List Step). item_at steps step) (item_at packets packet)) → (packet ≤ length packets) × (step ≤ longest packets)
 shared_within packets packet step some = by_packet (item_at packets packet) refl some

@@ -1,13 +1,13 @@
 -- The walk over the numbers of own steps without a name.
-use Rattle.std.proofs.Common.{◌≡◌, ◌∙◌, ℕ, zero, suc, ◌-◌, ◌<◌, ◌≤◌, List, [], ◌∷◌, length, sym, ap, subst, refl, arith}
-use Rattle.std.specs.Prelude.{Contains, Option, Some, None, IsSome, false, cond, ◌==◌, is_none, slice_get}
-use Rattle.std.proofs.lemmas.Bool.Decides.{nat_tests}
+use Rattle.std.proofs.Common.{◌≡◌, ◌∙◌, ℕ, ◌<◌, ◌≤◌, List, sym, ap, subst, refl, arith}
+use Rattle.std.specs.Prelude.{Contains, Option, Some, None, IsSome, cond, is_none}
 use Rattle.sat_base.specs.declared.origins.Ref.{Ref}
 use Rattle.sat_base.specs.declared.origins.Ref.TheVariants.{Input, Shared, Own}
 use Rattle.trace_core.specs.Known.{item_at}
 use Rattle.trace_core.specs.declared.derivation.Step.{Step}
 use Rattle.trace_trim.specs.Packed.{name_of, unnamed, RestsOn, CiteEarlierOwn}
-use Rattle.trace_trim.proofs.Order.{item_at-within}
+use Rattle.trace_core.proofs.Items.{item_at-within}
+pub use Rattle.trace_core.proofs.Items.{item_at-there}
 use Rattle.trace_trim.proofs.Walk.{IsWalk, LookBack}
 
 -- a hint that leads to an own step without a name names it
@@ -19,17 +19,6 @@ unnamed-own names (Own n) number is = by_name (name_of names n) refl is
     by_name : (o : Option Ref) → name_of names n ≡ o → cond (is_none o) (Some n) None ≡ Some number → (Own n ≡ Own number) × (name_of names number ≡ None)
     by_name (Some name) named is = absurd (cc)
     by_name None named is = let same : n ≡ number = cc in (ap Own same, ap (name_of names) (sym same) ∙ named)
-
-slice_get-there : {X : Type 0} (xs : List X) (i : ℕ) → i < length xs → IsSome (slice_get xs i)
-slice_get-there [] i lt = absurd (omega arith)
-slice_get-there (x ∷ xs) zero lt = refl
-slice_get-there (x ∷ xs) (suc i) lt = slice_get-there xs i (omega arith)
-
--- the places up to the length are there
-pub item_at-there : {X : Type 0} (xs : List X) (place : ℕ) → 1 ≤ place → place ≤ length xs → IsSome (item_at xs place)
-item_at-there xs place positive within =
-    let not_zero : (place == 0) ≡ false = grind (arith, nat_tests) in
-    subst (λ b. IsSome (cond b None (slice_get xs (place - 1)))) (sym not_zero) (slice_get-there xs (place - 1) (omega arith))
 
 abbrev pub IsThere : List Step → ℕ → Type 0
 IsThere own number = IsSome (item_at own number)

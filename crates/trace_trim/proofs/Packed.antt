@@ -1,23 +1,25 @@
 -- A packet is ok wherever the own steps are.
-use Rattle.std.proofs.Common.{◌≡◌, ◌∙◌, ℕ, ◌+◌, ◌-◌, ◌<◌, ◌≤◌, List, [], ◌∷◌, ◌++◌, map, take, length, length-append, get_or, refl, subst, sym, ap, arith}
-use Rattle.std.specs.Prelude.{Contains, Option, Some, None, IsSome, MatchOption, false, cond, ◌==◌, slice_get, option_map}
+use Rattle.std.proofs.Common.{◌≡◌, ◌∙◌, ℕ, ◌<◌, ◌≤◌, List, [], ◌∷◌, ◌++◌, map, take, length}
+use Rattle.std.proofs.Common.{length-append, get_or, refl, subst, sym, ap, arith}
+use Rattle.std.specs.Prelude.{Contains, Option, Some, None, IsSome, MatchOption, slice_get}
+use Rattle.std.specs.Prelude.{option_map}
 use Rattle.std.specs.List.{AllZip}
-use Rattle.std.proofs.lemmas.Bool.Decides.{nat_tests}
+use Rattle.std.proofs.lemmas.Option.{slice_get_within, slice_get-get_or, get_or_from_slice_get}
 use Rattle.sat_base.proofs.Members.{Contains-map}
 use Rattle.sat_base.specs.declared.origins.Ref.{Ref}
 use Rattle.sat_base.specs.declared.origins.Ref.TheVariants.{Input, Shared, Own}
 use Rattle.trace_core.specs.Known.{Known, known, item_at, tag_of}
 use Rattle.trace_core.specs.Trace.{IsOkStep, AreOkSteps, known_of}
 use Rattle.trace_core.specs.declared.derivation.Step.{Step}
-use Rattle.trace_core.proofs.Soundness.{item_at-contains, at_most_greatest}
+use Rattle.trace_core.proofs.Items.{item_at-contains, item_at-within, item_at-there, item_at-front}
+use Rattle.trace_core.proofs.Items.{item_at-map, item_at-last}
+use Rattle.trace_core.proofs.Soundness.{hint_tag_within}
 use Rattle.trace_trim.specs.Packed.{name_of, RestsOn, CiteEarlierOwn, IsPackedHint, IsPackedStep, IsPack, AreNamesRight, IsOkWhereOwnAreOk, ends_in, HasGreatestTagLast, AreOfOwn}
 use Rattle.trace_trim.specs.Reached.{IsCitedAlong}
-use Rattle.trace_trim.proofs.Found.{slice_get-is}
-use Rattle.trace_trim.proofs.OkSteps.{ok_in_the_end, ok_from_each, ok_renamed}
-use Rattle.trace_trim.proofs.OwnWalk.{unnamed-own, item_at-there}
-use Rattle.trace_trim.proofs.Order.{item_at-within}
-use Rattle.trace_trim.proofs.Traced.{place_before, zip_hints}
-use Rattle.trace_trim.proofs.Zips.{zip_back, zip_item, zip_ends, item_at-front, item_at-map, get_or-slice_get}
+use Rattle.trace_trim.proofs.OkSteps.{ok_in_the_end, ok_from_each, ok_with_hints}
+use Rattle.trace_trim.proofs.OwnWalk.{unnamed-own}
+use Rattle.trace_trim.proofs.Traced.{place_before}
+use Rattle.trace_trim.proofs.Zips.{zip_back, zip_item, zip_ends}
 
 -- a hint of the packet names the same there as the hint of the own step names
 same_known : (inputs : List Known) (packets : List (List Known)) (own : List Step) (names : List (Option Ref)) (numbers : List ℕ) (packet : List Step) (i : ℕ) (hint packed : Ref)
@@ -44,10 +46,13 @@ pub packed_ok : (own : List Step) (names : List (Option Ref)) (last : ℕ) (pack
 packed_ok own names last packet earlier pack inputs packets ok right = ok_from_each inputs packets [] packet each
   where
     each : (i : ℕ) (new : Step) → slice_get packet i ≡ Some new → IsOkStep (known inputs packets ([] ++ map known_of (take i packet))) new
-    each i new at = ok_renamed (known inputs packets (map known_of own)) (known inputs packets (map known_of (take i packet))) old new (ok_in_the_end inputs packets [] own old ok (item_at-contains own number old found.2.1)) found.2.2.clause found.2.2.tag
-        (zip_hints (IsPackedHint names pack.numbers) (λ hint other. known inputs packets (map known_of own) hint ≡ known inputs packets (map known_of (take i packet)) other) old.hints new.hints
-        (λ hint other has is. same_known inputs packets own names pack.numbers packet i hint other pack.packed right (there hint has) (low hint has) is)
-        found.2.2.hints)
+    each i new at = ok_with_hints (known inputs packets (map known_of own))
+        (known inputs packets (map known_of (take i packet))) (IsPackedHint names pack.numbers) old
+        new
+        (ok_in_the_end inputs packets [] own old ok (item_at-contains own number old found.2.1))
+        found.2.2
+        (λ hint other has is. same_known inputs packets own names pack.numbers packet i hint other
+        pack.packed right (there hint has) (low hint has) is)
       where
         found : (number : ℕ) × (slice_get pack.numbers i ≡ Some number) × IsPackedStep own names pack.numbers number new
         found = zip_back (IsPackedStep own names pack.numbers) pack.numbers packet i new pack.packed at
@@ -70,25 +75,16 @@ packed_ok own names last packet earlier pack inputs packets ok right = ok_from_e
         low : (hint : Ref) → Contains old.hints hint → (m place : ℕ) → hint ≡ Own m → item_at pack.numbers place ≡ Some m → place ≤ i
         low hint has m place same at_place = place_before (λ a b. a < b) (λ a b c h g. omega arith) (λ a h. omega arith) pack.numbers i place number m pack.reached.ascending found.1 at_place (back hint has m same).1
 
-slice_get-end : {X : Type 0} (back : List X) (x : X) → slice_get (back ++ x ∷ []) (length back) ≡ Some x
-slice_get-end [] x = refl
-slice_get-end (y ∷ back) x = slice_get-end back x
-
-item_at-end : {X : Type 0} (back : List X) (x : X) → item_at (back ++ x ∷ []) (length (back ++ x ∷ [])) ≡ Some x
-item_at-end back x =
-    let long : length (back ++ x ∷ []) ≡ length back + 1 = length-append back (x ∷ []) in
-    let not_zero : (length (back ++ x ∷ []) == 0) ≡ false = grind (arith, nat_tests) in
-    let before : length (back ++ x ∷ []) - 1 ≡ length back = omega (arith, long) in
-    subst (λ b. cond b None (slice_get (back ++ x ∷ []) (length (back ++ x ∷ []) - 1)) ≡ Some x) (sym not_zero)
-    (subst (λ n. slice_get (back ++ x ∷ []) n ≡ Some x) (sym before) (slice_get-end back x))
-
 -- the packet ends in a step with the clause and the tag of the last one
 pub packed_ends : (own : List Step) (names : List (Option Ref)) (last : ℕ) (packet : List Step) → IsPack own names last packet → ends_in packet ≡ item_at (map known_of own) last
 packed_ends own names last packet pack =
     let ends = zip_ends (IsPackedStep own names pack.numbers) pack.reached.front last packet (subst (λ numbers. AllZip (IsPackedStep own names pack.numbers) numbers packet) pack.reached.ends pack.packed) in
     let alike = ends.3.2 in
     let named : known_of ends.1 ≡ known_of ends.3.0 = let c = alike.clause in let t = alike.tag in cc in
-    let there : item_at packet (length packet) ≡ Some ends.1 = subst (λ (xs : List Step). item_at xs (length xs) ≡ Some ends.1) (sym ends.2) (item_at-end ends.0 ends.1) in
+    let there : item_at packet (length packet) ≡ Some ends.1 =
+    subst (λ (xs : List Step). item_at xs (length xs) ≡ Some ends.1) (sym ends.2)
+    (item_at-last ends.0 ends.1 (length (ends.0 ++ ends.1 ∷ []))
+    (length-append ends.0 (ends.1 ∷ []))) in
     item_at-map known_of packet (length packet) ∙ ap (option_map known_of) there ∙ ap Some named ∙ sym (ap (option_map known_of) ends.3.1) ∙ sym (item_at-map known_of own last)
 
 -- the own step that a step of the packet is
@@ -97,10 +93,14 @@ own_of : (own : List Step) (names : List (Option Ref)) (numbers : List ℕ) (pac
 own_of own names numbers packet new zip (k, lt, is) = (found.0, (k, here.0, here.1), (found.2.0, found.2.1, (let c = found.2.2.clause in let t = found.2.2.tag in cc)))
   where
     found : (number : ℕ) × (slice_get numbers k ≡ Some number) × IsPackedStep own names numbers number new
-    found = zip_back (IsPackedStep own names numbers) numbers packet k new zip (slice_get-is packet k new lt is)
+    found = zip_back (IsPackedStep own names numbers) numbers packet k new zip
+        (slice_get-get_or packet k new lt ∙ ap Some is)
 
     here : (k < length numbers) × (get_or numbers k found.0 ≡ found.0)
-    here = get_or-slice_get numbers k found.0 found.0 found.1
+    here = (
+      slice_get_within numbers k found.0 found.1,
+      get_or_from_slice_get numbers k found.0 found.0 found.1,
+    )
 
 pub packed_of_own : (own : List Step) (names : List (Option Ref)) (last : ℕ) (packet : List Step) → IsPack own names last packet → AreOfOwn own packet
 packed_of_own own names last packet pack new has =
@@ -114,10 +114,19 @@ tag_up inputs packets own names last number [] ok is = let e = ap (λ n. tag_of 
 tag_up inputs packets own names last number (user ∷ users) ok ((step, is, (hint, has, leads)), along) =
     let above = tag_up inputs packets own names last user users ok along in
     let fine : IsOkStep (known inputs packets (map known_of own)) step = ok_in_the_end inputs packets [] own step ok (item_at-contains own user step is) in
-    let under = at_most_greatest (map (λ h. tag_of (known inputs packets (map known_of own) h)) step.hints) (tag_of (known inputs packets (map known_of own) hint)) (Contains-map (λ h. tag_of (known inputs packets (map known_of own) h)) step.hints hint has) in
-    let named : tag_of (known inputs packets (map known_of own) hint) ≡ tag_of (item_at (map known_of own) number) = ap (λ h. tag_of (known inputs packets (map known_of own) h)) (unnamed-own names hint number leads).0 in
+    let named : known inputs packets (map known_of own) hint ≡ item_at (map known_of own) number =
+    ap (known inputs packets (map known_of own)) (unnamed-own names hint number leads).0 in
+    let under = tag_under (item_at (map known_of own) number) (λ one is.
+    hint_tag_within (known inputs packets (map known_of own)) step hint one fine has
+    (named ∙ is)) in
     let users_tag : tag_of (item_at (map known_of own) user) ≡ step.tag = ap tag_of (item_at-map known_of own user ∙ ap (option_map known_of) is) in
-    omega (arith, above, under, named, users_tag, fine.exact_tag)
+    omega (arith, above, under, users_tag)
+  where
+    tag_under : {bound : ℕ} (found : Option Known)
+        → ((one : Known) → found ≡ Some one → one.tag ≤ bound)
+        → tag_of found ≤ bound
+    tag_under None low = omega arith
+    tag_under (Some one) low = low one refl
 
 pub packed_tags : (own : List Step) (names : List (Option Ref)) (last : ℕ) (packet : List Step) → IsPack own names last packet → HasGreatestTagLast own packet
 packed_tags own names last packet pack inputs packets ok new has =

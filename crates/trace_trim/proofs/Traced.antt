@@ -2,19 +2,21 @@
 use Rattle.std.proofs.Common.{◌≡◌, ◌∙◌, ℕ, ◌-◌, ◌<◌, ◌≤◌, List, [], ◌∷◌, ◌++◌, map, take, length, get_or, refl, subst, sym, ap, inl, inr, arith}
 use Rattle.std.specs.Prelude.{Contains, ◌⊎◌, ◌↔◌, Some, AllPairs, slice_get, option_map}
 use Rattle.std.specs.List.{AllZip}
-use Rattle.sat_base.proofs.Members.{Contains-here, Contains-there}
+use Rattle.std.proofs.lemmas.Option.{slice_get_within, get_or_from_slice_get}
 use Rattle.sat_base.specs.Lit.{opposite}
 use Rattle.sat_base.specs.declared.origins.Ref.{Ref}
 use Rattle.sat_base.specs.declared.origins.Ref.TheVariants.{Input, Shared, Own}
 use Rattle.trace_core.specs.Known.{Known, known, item_at}
 use Rattle.trace_core.specs.Trace.{IsOkStep, known_of}
 use Rattle.trace_core.specs.declared.derivation.Step.{Step}
-use Rattle.trace_trim.specs.Names.{step_named, cited, IsBefore, CiteEarlierSteps}
+use Rattle.trace_core.proofs.Items.{slice_get-contains, item_at-found, item_at-front, item_at-map}
+use Rattle.trace_trim.specs.Names.{step_named, cited, AreCiting, IsBefore, CiteEarlierSteps}
 use Rattle.trace_trim.specs.Trimmed.{IsRenumberedHint, IsRenumbered, IsTrimmed, IsTraceWhereOk}
 use Rattle.trace_trim.proofs.Order.{before_trans, not_before_itself}
 use Rattle.trace_trim.proofs.Found.{either_side}
-use Rattle.trace_trim.proofs.Zips.{zip_back, zip_item, zip_ends, item_at-front, item_at-map, slice_get-place, get_or-slice_get}
-use Rattle.trace_trim.proofs.OkSteps.{ok_from_each, ok_named, ok_renamed, known_by}
+use Rattle.trace_trim.proofs.Zips.{zip_back, zip_item, zip_ends}
+use Rattle.trace_trim.proofs.OkSteps.{ok_from_each, ok_named, ok_over_fewer, ok_with_hints}
+use Rattle.trace_trim.proofs.OkSteps.{reached_tag_within, known_by}
 
 -- what comes before the one at an index has a place up to it
 pub place_before : {X : Type 0} (before : X → X → Type 0) → ((a b c : X) → before a b → before b c → before a c) → ((a : X) → before a a → ⊥) → (ones : List X) (i place : ℕ) (user other : X)
@@ -22,13 +24,16 @@ pub place_before : {X : Type 0} (before : X → X → Type 0) → ((a b c : X) �
 place_before {X} before composes irreflexive ones i place user other ascending at_i at_place earlier = by_side (either_side i place)
   where
     here : (0 < place) × (slice_get ones (place - 1) ≡ Some other)
-    here = slice_get-place ones place other at_place
+    here = item_at-found ones place other at_place
 
     user_at : (i < length ones) × (get_or ones i user ≡ user)
-    user_at = get_or-slice_get ones i user user at_i
+    user_at = (slice_get_within ones i user at_i, get_or_from_slice_get ones i user user at_i)
 
     other_at : (place - 1 < length ones) × (get_or ones (place - 1) user ≡ other)
-    other_at = get_or-slice_get ones (place - 1) user other here.1
+    other_at = (
+      slice_get_within ones (place - 1) other here.1,
+      get_or_from_slice_get ones (place - 1) other user here.1,
+    )
 
     not_later : (i < place - 1) ⊎ (place - 1 ≤ i) → i < place → place ≤ i
     not_later (inl above) lt =
@@ -65,20 +70,16 @@ same_known inputs packets own names trimmed i user hint renumbered zip low is = 
     by_hint (Shared p s) (Own n) low is = step_is (Shared p n) (λ place at. low (Shared p n) place refl at) is
     by_hint (Own k) (Own n) low is = step_is (Own n) (λ place at. low (Own n) place refl at) is
 
-pub zip_hints : (R S : Ref → Ref → Type 0) (hints others : List Ref) → ((hint other : Ref) → Contains hints hint → R hint other → S hint other) → AllZip R hints others → AllZip S hints others
-zip_hints R S [] [] each zip = zip
-zip_hints R S [] (other ∷ others) each zip = zip
-zip_hints R S (hint ∷ hints) [] each zip = zip
-zip_hints R S (hint ∷ hints) (other ∷ others) each zip = (each hint other (Contains-here hint hints) zip.0, zip_hints R S hints others (λ h o has. each h o (Contains-there hint h hints has)) zip.1)
-
 pub traced : (packets : List (List Step)) (own : List Step) (last : ℕ) (trimmed : List Step) → CiteEarlierSteps packets own → IsTrimmed packets own last trimmed → IsTraceWhereOk packets own last trimmed
-traced packets own last trimmed earlier trim inputs part step ok_packets ok_own is_last negated = record {
-  front = ends.0;
-  last = ends.1;
-  ends = ends.2;
-  ok = ok_from_each inputs [] [] trimmed each;
-  refutes = λ lit. subst (λ clause. Contains clause lit ↔ Contains part (opposite lit)) (sym same_clause) (negated lit);
-}
+traced packets own last trimmed earlier trim all inputs part step ok_packets ok_own is_last agree
+    negated = record {
+      front = ends.0;
+      last = ends.1;
+      ends = ends.2;
+      ok = ok_from_each inputs [] [] trimmed each;
+      refutes = λ lit. subst (λ clause. Contains clause lit ↔ Contains part (opposite lit))
+          (sym same_clause) (negated lit);
+    }
   where
     ends : (back : List Step) × (y : Step) × (trimmed ≡ back ++ y ∷ []) × IsRenumbered packets own trim.names (Own last) y
     ends = zip_ends (IsRenumbered packets own trim.names) trim.reached.front (Own last) trimmed (subst (λ names. AllZip (IsRenumbered packets own trim.names) names trimmed) trim.reached.ends trim.renumbered)
@@ -89,10 +90,12 @@ traced packets own last trimmed earlier trim inputs part step ok_packets ok_own 
         ends.3.2.clause ∙ ap (λ (s : Step). s.clause) one
 
     each : (i : ℕ) (new : Step) → slice_get trimmed i ≡ Some new → IsOkStep (known inputs [] ([] ++ map known_of (take i trimmed))) new
-    each i new at = ok_renamed (known_by inputs packets own name) (known inputs [] (map known_of (take i trimmed))) old new (ok_named inputs packets own name old ok_packets ok_own found.2.1) found.2.2.clause found.2.2.tag
-        (zip_hints (IsRenumberedHint trim.names name) (λ hint other. known_by inputs packets own name hint ≡ known inputs [] (map known_of (take i trimmed)) other) old.hints new.hints
-        (λ hint other has is. same_known inputs packets own trim.names trimmed i name hint other trim.renumbered (λ cited_name place cites at_place. place_before IsBefore before_trans not_before_itself trim.names i place name cited_name trim.reached.ascending found.1 at_place (earlier name cited_name (old, found.2.1, (hint, has, cites))).1) is)
-        found.2.2.hints)
+    each i new at = ok_with_hints (known_by inputs packets own name)
+        (known inputs [] (map known_of (take i trimmed))) (IsRenumberedHint trim.names name) old new
+        (ok_over_fewer all inputs packets own name old step.tag agree within
+        (ok_named all packets own name old ok_packets ok_own found.2.1)) found.2.2
+        (λ hint other has is. same_known inputs packets own trim.names trimmed i name hint other
+        trim.renumbered (λ cited_name place cites. before cited_name place (hint, has, cites)) is)
       where
         found : (name : Ref) × (slice_get trim.names i ≡ Some name) × IsRenumbered packets own trim.names name new
         found = zip_back (IsRenumbered packets own trim.names) trim.names trimmed i new trim.renumbered at
@@ -102,3 +105,17 @@ traced packets own last trimmed earlier trim inputs part step ok_packets ok_own 
 
         old : Step
         old = found.2.0
+
+        before : (cited_name : Ref) (place : ℕ) → AreCiting name old.hints cited_name
+            → item_at trim.names place ≡ Some cited_name → place ≤ i
+        before cited_name place citing at_place =
+            place_before IsBefore before_trans not_before_itself trim.names i place name cited_name
+            trim.reached.ascending found.1 at_place
+            (earlier name cited_name (old, found.2.1, citing)).1
+
+        within : old.tag ≤ step.tag
+        within =
+            let users = (trim.reached.exactly name).0
+            (slice_get-contains trim.names i name found.1) in
+            reached_tag_within all packets own (Own last) name users.0 step old ok_packets ok_own
+            is_last found.2.1 users.1

@@ -5,6 +5,7 @@ use Rattle.std.specs.Prelude.{Contains, ◌⊎◌, ◌↔◌, Option, Some, None
 use Rattle.std.proofs.lemmas.List.Elements.{Contains-append_left, Contains-push, Contains-push_cases, Contains-get_or}
 use Rattle.std.proofs.lemmas.List.Quantifiers.{all_pairs_push}
 use Rattle.sat_base.proofs.Members.{Contains-here, Contains-cases}
+use Rattle.trace_core.proofs.Items.{nothing_in}
 use Rattle.trace_trim.specs.Reached.{IsReached, IsCitedAlong, AreReached}
 use Rattle.trace_trim.proofs.Order.{peak, peak-below, peak-above}
 
@@ -23,9 +24,6 @@ pub record IsWalk {X : Type 0} (cites before : X → X → Type 0) (IsThere : X 
   pub there : (one : X) → Contains pending one → IsThere one
   pub back : List X
   pub begins : met ≡ start ∷ back
-
-nothing_in : {X : Type 0} (x : X) → Contains [] x → ⊥
-nothing_in x (k, lt, is) = omega arith
 
 -- keys that grow by what one cites, told by what there is of that one
 pub cited_now : {X Y : Type 0} (P : Y → X → Type 0) (found : Option Y) (y : Y) (old more : List X) → found ≡ Some y

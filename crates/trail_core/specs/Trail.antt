@@ -1,14 +1,17 @@
 -- Trails as contracts see them.
-use Rattle.std.specs.Prelude.{◌≡◌, ℕ, ◌<◌, ◌≤◌, nat_le, List, map, filter, length, All, Contains, Option, None, slice_index_or}
+use Rattle.std.specs.Prelude.{◌≡◌, ℕ, ◌<◌, ◌≤◌, nat_le, List, map, filter, length, All, Contains}
+use Rattle.std.specs.Prelude.{Option, None, slice_index_or}
 use Rattle.sat_base.specs.Lit.{variable, opposite}
 
--- a true literal, the level at which it became true, and the number of the clause that forced it, if one did
+-- a true literal, the level at which it became true, and the number of the clause that forced it,
+-- if one did
 pub record Entry : Type 0 where
   pub lit : ℕ
   pub level : ℕ
   pub reason : Option ℕ
 
--- the entries in the order in which they came, the present level, and how many variables are reserved: 1 to that number
+-- the entries in the order in which they came, the present level, and how many variables are
+-- reserved: 1 to that number
 pub record TrailView : Type 0 where
   pub entries : List Entry
   pub depth : ℕ
@@ -38,13 +41,16 @@ pub record StandsAt (entries : List Entry) (var place : ℕ) : Type 0 where
 pub record IsFree (entries : List Entry) (var : ℕ) : Type 0 where
   pub none : (place : ℕ) → StandsAt entries var place → ⊥
 
--- What holds of every trail: no variable stands twice, no literal is true and false, levels ascend and none is above
--- the depth, and each variable is a reserved one.
+-- What holds of every trail: no variable stands twice, no literal is true and false, levels ascend
+-- and none is above the depth, and each variable is a reserved one.
 pub record IsTrail (trail : TrailView) : Type 0 where
   pub once : (var i j : ℕ) → StandsAt trail.entries var i → StandsAt trail.entries var j → i ≡ j
-  pub consistent : (lit : ℕ) → Contains (lits_of trail.entries) lit → Contains (lits_of trail.entries) (opposite lit) → ⊥
-  pub ascending : (i j : ℕ) → i ≤ j → j < length trail.entries → (entry_at trail.entries i).level ≤ (entry_at trail.entries j).level
+  pub consistent : (lit : ℕ) → Contains (lits_of trail.entries) lit
+      → Contains (lits_of trail.entries) (opposite lit) → ⊥
+  pub ascending : (i j : ℕ) → i ≤ j → j < length trail.entries
+      → (entry_at trail.entries i).level ≤ (entry_at trail.entries j).level
   pub below : All (λ entry. entry.level ≤ trail.depth) trail.entries
-  pub reserved : All (λ entry. (1 ≤ variable entry.lit) × (variable entry.lit ≤ trail.vars)) trail.entries
+  pub reserved : All
+      (λ entry. (1 ≤ variable entry.lit) × (variable entry.lit ≤ trail.vars)) trail.entries
   pub few : length trail.entries ≤ trail.vars
   pub shallow : trail.depth ≤ trail.vars

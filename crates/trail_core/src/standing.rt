@@ -5,9 +5,9 @@ ghost use Rattle.trail_core.specs.Standing.{place_of, reason_of};
 
 use std::mem::size_of;
 
-// Level, reason and place on the trail of an assigned variable, in sixteen bytes. A reason may be any
-// number, so that there is one is told by the lowest bit of `mark`; the other bits are the place, which
-// is below 8,388,607 and so leaves room.
+// Level, reason and place on the trail of an assigned variable, in sixteen bytes. A reason may be
+// any number, so that there is one is told by the lowest bit of `mark`; the other bits are the
+// place, which is below 8,388,607 and so leaves room.
 #[derive(Clone, Copy, Debug)]
 pub(crate) struct Standing {
     reason: usize,

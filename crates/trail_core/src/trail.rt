@@ -1,8 +1,11 @@
 //! The trail.
 
-ghost use Rattle.std.specs.Prelude.{◌≡◌, ◌≢◌, ℕ, ◌+◌, ◌-◌, ◌<◌, ◌≤◌, max, List, [], ◌∷◌, ◌++◌, length, take, All, Option, Some, None, IfSome, IfNone, OnOk, OnErr, IsTrue, not};
+ghost use Rattle.std.specs.Prelude.{◌≡◌, ◌≢◌, ℕ, ◌+◌, ◌-◌, ◌<◌, ◌≤◌, max, List, [], ◌∷◌, ◌++◌};
+ghost use Rattle.std.specs.Prelude.{length, take, All, Option, Some, None, IfSome, IfNone, OnOk};
+ghost use Rattle.std.specs.Prelude.{OnErr, IsTrue, not};
 ghost use Rattle.sat_base.specs.Lit.{variable};
-ghost use Rattle.trail_core.specs.Trail.{Entry, IsTrail, IsFree, StandsAt, entry_at, lits_of, up_to};
+ghost use Rattle.trail_core.specs.Trail.{Entry, IsTrail, IsFree, StandsAt, entry_at, lits_of};
+ghost use Rattle.trail_core.specs.Trail.{up_to};
 ghost use Rattle.trail_core.specs.UnderTrail.{IsUnassigned};
 ghost use Rattle.trail_core.specs.Truth.{HasTruth, truth_of};
 ghost use Rattle.trail_core.specs.Standing.{IsStandingOf};
@@ -16,9 +19,10 @@ use std::marker::Model;
 // No literal has a greater variable, so no place is made for one.
 const GREATEST_VARIABLE: u32 = 8_388_607;
 
-/// The literals that are true, in the order in which they became so, each with its level and its reason.
-/// A level above 0 begins with a decision; a reason is the number of the clause that forced the literal.
-/// Contracts see a trail as its entries, its depth and how many variables are reserved.
+/// The literals that are true, in the order in which they became so, each with its level and its
+/// reason. A level above 0 begins with a decision; a reason is the number of the clause that forced
+/// the literal. Contracts see a trail as its entries, its depth and how many variables are
+/// reserved.
 #[derive(Debug, Drop)]
 pub struct Trail {
     values: Vec<Truth>,
@@ -58,8 +62,8 @@ impl Trail {
         }
     }
 
-    /// Reserves the variables 1 to `vars`; those that are reserved already stay so. Takes 22 bytes for each
-    /// variable up to 8,388,607.
+    /// Reserves the variables 1 to `vars`; those that are reserved already stay so. Takes 22 bytes
+    /// for each variable up to 8,388,607.
     pub fn reserve(&mut self, vars: u32) -> Result<(), AllocError>
         ensures entries { self.new.entries ≡ self.old.entries }
         ensures depth { self.new.depth ≡ self.old.depth }
@@ -77,12 +81,14 @@ impl Trail {
         Ok(())
     }
 
-    /// Makes a literal true at the present level, with the number of the clause that forces it, if one does.
-    /// Takes no memory.
+    /// Makes a literal true at the present level, with the number of the clause that forces it, if
+    /// one does. Takes no memory.
     pub fn assign(&mut self, lit: Lit, reason: Option<usize>)
         requires reserved { variable lit ≤ self.old.vars }
         requires unassigned { IsUnassigned (lits_of self.old.entries) lit }
-        ensures entries { self.new.entries ≡ self.old.entries ++ record { lit = lit; level = self.old.depth; reason = reason } ∷ [] }
+        ensures entries { self.new.entries
+            ≡ self.old.entries
+            ++ record { lit = lit; level = self.old.depth; reason = reason } ∷ [] }
         ensures depth { self.new.depth ≡ self.old.depth }
         ensures vars { self.new.vars ≡ self.old.vars }
     {
@@ -110,8 +116,8 @@ impl Trail {
         self.set_depth(depth);
     }
 
-    /// Takes back exactly the literals of higher levels than this one, which is the present level then.
-    /// Takes no memory.
+    /// Takes back exactly the literals of higher levels than this one, which is the present level
+    /// then. Takes no memory.
     pub fn back_to(&mut self, level: u32)
         requires { level ≤ self.old.depth }
         ensures entries { self.new.entries ≡ up_to level self.old.entries }
@@ -126,7 +132,9 @@ impl Trail {
 
     // Whether the last literal is of a higher level.
     fn ends_above(&self, level: u32) -> bool
-        ensures last { IsTrue result → (0 < length self.now.entries) × (level < (entry_at self.now.entries (length self.now.entries - 1)).level) }
+        ensures last { IsTrue result
+            → (0 < length self.now.entries)
+            × (level < (entry_at self.now.entries (length self.now.entries - 1)).level) }
         ensures none { IsTrue (not result) → All (λ entry. entry.level ≤ level) self.now.entries }
         ensures trail { IsTrail self.now }
     {
@@ -200,7 +208,8 @@ impl Trail {
         }
     }
 
-    /// The place on the trail, counted from 0, of the literal that assigns the variable; `None` where none does.
+    /// The place on the trail, counted from 0, of the literal that assigns the variable; `None`
+    /// where none does.
     pub fn place(&self, var: u32) -> Option<usize>
         ensures found { IfSome result (λ place. StandsAt self.now.entries var place) }
         ensures free { IfNone result (IsFree self.now.entries var) }
@@ -211,16 +220,19 @@ impl Trail {
 
     /// The level at which the variable was assigned, `None` where it isn't.
     pub fn level(&self, var: u32) -> Option<u32>
-        ensures found { (place : ℕ) → StandsAt self.now.entries var place → result ≡ Some (entry_at self.now.entries place).level }
+        ensures found { (place : ℕ) → StandsAt self.now.entries var place
+            → result ≡ Some (entry_at self.now.entries place).level }
         ensures free { IsFree self.now.entries var → result ≡ None }
     {
         let standing = self.standing(var)?;
         Some(standing.level)
     }
 
-    /// The number of the clause that forced the variable; `None` where none did, or it isn't assigned.
+    /// The number of the clause that forced the variable; `None` where none did, or it isn't
+    /// assigned.
     pub fn reason(&self, var: u32) -> Option<usize>
-        ensures found { (place : ℕ) → StandsAt self.now.entries var place → result ≡ (entry_at self.now.entries place).reason }
+        ensures found { (place : ℕ) → StandsAt self.now.entries var place
+            → result ≡ (entry_at self.now.entries place).reason }
         ensures free { IsFree self.now.entries var → result ≡ None }
     {
         let standing = self.standing(var)?;

@@ -11,4 +11,5 @@ entries_of caller number log = filter (λ e. caller e == number) log
 
 -- a list goes on from what was seen by entries of this one caller alone
 abbrev pub AddsOwn : {E : Type 0} → (E → ℕ) → ℕ → List E → List E → Type 0
-AddsOwn {E} caller number seen log = (added : List E) × (log ≡ seen ++ added) × All (λ e. caller e ≡ number) added
+AddsOwn {E} caller number seen log = (added : List E) × (log ≡ seen ++ added)
+    × All (λ e. caller e ≡ number) added

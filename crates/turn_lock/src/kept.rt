@@ -1,8 +1,8 @@
 // What a value under the lock has to tell of itself.
 ghost use Rattle.std.specs.Prelude.{◌≡◌, ◌≤◌, ℕ, List, ◌++◌};
 
-/// A value that grows by entries, each made by one caller. Its count never falls as it grows, and its ground is what
-/// no hold changes.
+/// A value that grows by entries, each made by one caller. Its count never falls as it grows, and
+/// its ground is what no hold changes.
 pub trait Kept {
     type Entry;
 
@@ -25,5 +25,6 @@ pub trait Kept {
         ensures { result ≡ count self.now };
 
     // Where one value's entries go on from another's of the same ground, its count is no less.
-    ghost counts_up: { (x y : Self) (more : List Self.Entry) → basis x ≡ basis y → entries y ≡ entries x ++ more → count x ≤ count y };
+    ghost counts_up: { (x y : Self) (more : List Self.Entry) → basis x ≡ basis y
+        → entries y ≡ entries x ++ more → count x ≤ count y };
 }

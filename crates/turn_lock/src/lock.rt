@@ -1,5 +1,6 @@
 // The lock, its passes and its holds.
-ghost use Rattle.std.specs.Prelude.{◌≡◌, ◌+◌, ◌<◌, ◌≤◌, ℕ, true, false, List, [], ◌∷◌, ◌++◌, length, map, All, IfOk, IfErr};
+ghost use Rattle.std.specs.Prelude.{◌≡◌, ◌+◌, ◌<◌, ◌≤◌, ℕ, true, false, List, [], ◌∷◌, ◌++◌};
+ghost use Rattle.std.specs.Prelude.{length, map, All, IfOk, IfErr};
 ghost use Rattle.std.specs.Borrow.{sem};
 ghost use Rattle.turn_lock.specs.declared.view.Look.TheVariants.{Turn, Count};
 ghost use Rattle.turn_lock.specs.Entries.{AddsOwn, entries_of};
@@ -27,9 +28,14 @@ impl<T: Kept> Model for TurnLock<T> {
 
     ghost Value = { LockView T.Ground };
 
-    ghost view = { λ l. record { id = l.table.shared.table_id; basis = T.basis l.table.shared.key.value.value; passes = l.passes } };
+    ghost view = { λ l. record {
+      id = l.table.shared.table_id;
+      basis = T.basis l.table.shared.key.value.value;
+      passes = l.passes;
+    } };
 
-    ghost invariant = { λ l. (l.table.shared.table_id.words ≡ 2) × (l.table.shared.table_id.slots ≡ 1) × (l.table.shared.key.passes ≡ l.passes) };
+    ghost invariant = { λ l. (l.table.shared.table_id.words ≡ 2)
+        × (l.table.shared.table_id.slots ≡ 1) × (l.table.shared.key.passes ≡ l.passes) };
 }
 
 /// The right to enter a lock, of one caller at a time. It may go to another thread.
@@ -49,7 +55,8 @@ impl<T: Kept> Model for Pass<T> {
     ghost invariant = { λ p. IsPassSeat T.caller p.number p.seat.me };
 }
 
-/// The value while it is out of the lock. A hold can't be dropped: `TurnLock::leave` alone spends it.
+/// The value while it is out of the lock. A hold can't be dropped: `TurnLock::leave` alone spends
+/// it.
 pub struct Held<T> {
     value: T,
 }
@@ -67,7 +74,8 @@ impl<T: Kept> Pass<T> {
 impl<T> Held<T> {
     ghost use Rattle.turn_lock.specs.Lending.{LendsValue};
 
-    /// The value, to read and to change. What is written through the reference is what `TurnLock::leave` puts back.
+    /// The value, to read and to change. What is written through the reference is what
+    /// `TurnLock::leave` puts back.
     pub fn value(&mut self) -> &mut T
         ensures* writes_back { sem 𝓛 (LendsValue T.row self.entry result) }
         ensures value { result.now ≡ self.old.value }
@@ -77,8 +85,8 @@ impl<T> Held<T> {
 }
 
 impl<T: Kept + Drop> TurnLock<T> {
-    /// A lock round `value`, and its passes in the order of their numbers, from 1 to `passes`, of which there are at
-    /// most 80. Where there is no memory the value is dropped.
+    /// A lock round `value`, and its passes in the order of their numbers, from 1 to `passes`, of
+    /// which there are at most 80. Where there is no memory the value is dropped.
     pub fn make(
         alloc: Global,
         value: T,
@@ -88,7 +96,8 @@ impl<T: Kept + Drop> TurnLock<T> {
         requires some { 0 < passes }
         requires most { passes ≤ 80 }
         ensures basis { IfOk result (λ made. made.0.basis ≡ T.basis value) }
-        ensures number { IfOk result (λ made. (made.0.passes ≡ passes) × (length made.1.items ≡ passes)) }
+        ensures number { IfOk result
+            (λ made. (made.0.passes ≡ passes) × (length made.1.items ≡ passes)) }
         ensures passes { IfOk result (λ made. AreNew made.0 (T.count value) made.1.items) }
     {
         let mut dealt = Vec::with_capacity(alloc, passes as usize)?;
@@ -122,19 +131,22 @@ impl<T: Kept> TurnLock<T> {
         unreachable!()
     }
 
-    /// One try to get the turn. The refusal is the word that it found, the number of the pass that had the turn then.
+    /// One try to get the turn. The refusal is the word that it found, the number of the pass that
+    /// had the turn then.
     pub fn try_enter(&self, pass: &mut Pass<T>) -> Result<Held<T>, u64>
         requires lock { IsOf self.now pass.old }
         requires idle { pass.old.idle ≡ true }
         ensures basis { IfOk result (λ held. T.basis held.value ≡ self.now.basis) }
-        ensures shown { IfOk result (λ held. AgreesWith T.entries T.caller T.count pass.old held.value) }
+        ensures shown { IfOk result
+            (λ held. AgreesWith T.entries T.caller T.count pass.old held.value) }
         ensures pass { IfOk result (λ held. pass.new ≡ record pass.old {
           seen = T.entries held.value;
           idle = false;
           looks = pass.old.looks ++ Turn 0 ∷ [];
         }) }
         ensures refusal { IfErr result (λ found. (0 < found) × (found ≤ 80)) }
-        ensures refused { IfErr result (λ found. pass.new ≡ record pass.old { looks = pass.old.looks ++ Turn found ∷ [] }) }
+        ensures refused { IfErr result
+            (λ found. pass.new ≡ record pass.old { looks = pass.old.looks ++ Turn found ∷ [] }) }
     {
         let shared = &self.table.shared;
         let found = shared.compare_exchange::<Acquire>(&mut pass.seat, TURN, 0, pass.number as u64);
@@ -145,7 +157,8 @@ impl<T: Kept> TurnLock<T> {
         Ok(Held { value })
     }
 
-    /// Puts the value back and frees the turn. Wakes one call of `enter` that sleeps, if there is one.
+    /// Puts the value back and frees the turn. Wakes one call of `enter` that sleeps, if there is
+    /// one.
     pub fn leave(&self, pass: &mut Pass<T>, held: Held<T>)
         requires lock { IsOf self.now pass.old }
         requires busy { pass.old.idle ≡ false }
@@ -157,7 +170,8 @@ impl<T: Kept> TurnLock<T> {
           floor = T.count held.value;
           idle = true;
         } }
-        ensures own { (added : List T.Entry) × (T.entries held.value ≡ pass.old.seen ++ added) × (pass.new.own ≡ pass.old.own ++ added) }
+        ensures own { (added : List T.Entry) × (T.entries held.value ≡ pass.old.seen ++ added)
+            × (pass.new.own ≡ pass.old.own ++ added) }
     {
         let shared = &self.table.shared;
         let Held { value } = held;
@@ -173,19 +187,22 @@ impl<T: Kept> TurnLock<T> {
     pub fn count(&self, pass: &mut Pass<T>) -> u64
         requires { IsOf self.now pass.old }
         ensures least { pass.old.floor ≤ result }
-        ensures pass { pass.new ≡ record pass.old { floor = result; looks = pass.old.looks ++ Count result ∷ [] } }
+        ensures pass { pass.new
+            ≡ record pass.old { floor = result; looks = pass.old.looks ++ Count result ∷ [] } }
     {
         self.table.shared.load::<LoadCount>(&mut pass.seat, COUNT)
     }
 
-    /// Ends the lock, for which all its passes come back, in the order of their numbers: those of `front`, then those
-    /// of `rest`.
+    /// Ends the lock, for which all its passes come back, in the order of their numbers: those of
+    /// `front`, then those of `rest`.
     pub fn close(self, front: Vec<Pass<T>>, rest: Vec<Pass<T>>) -> T
         requires all { length (front.items ++ rest.items) ≡ self.passes }
         requires passes { AreIdleInOrder self (front.items ++ rest.items) }
         ensures basis { T.basis result ≡ self.basis }
-        ensures callers { All (λ e. (0 < T.caller e) × (T.caller e ≤ self.passes)) (T.entries result) }
-        ensures passes { All (λ pass. AgreesWith T.entries T.caller T.count pass result) (front.items ++ rest.items) }
+        ensures callers { All (λ e. (0 < T.caller e) × (T.caller e ≤ self.passes))
+            (T.entries result) }
+        ensures passes { All (λ pass. AgreesWith T.entries T.caller T.count pass result)
+            (front.items ++ rest.items) }
     {
         let (_, mut seat) = self.table.shared.load_new_seat::<Observe>(TURN);
         take_in(&self.table.shared, &mut seat, rest);

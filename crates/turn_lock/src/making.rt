@@ -21,7 +21,9 @@ pub fn open<T: Kept + Drop>(
     requires some { 0 < passes }
     requires most { passes ≤ 80 }
     ensures lock { IfOk result (λ made. (made.0.basis ≡ T.basis value) × (made.0.passes ≡ passes)) }
-    ensures seat { IfOk result (λ made. (made.1.table_id ≡ made.0.id) × (made.1.me ≡ (first_pass (T.basis value) (T.count value), []))) }
+    ensures seat { IfOk result
+        (λ made. (made.1.table_id ≡ made.0.id)
+        × (made.1.me ≡ (first_pass (T.basis value) (T.count value), []))) }
 {
     let about = About {
         value: Snapshot::of(&value),

@@ -39,7 +39,8 @@ impl<T: Kept> Play<Option<T>, SeatView<T::Entry, T::Ground>> for LoadCount {
     ghost then = { count_loaded };
 }
 
-// A seat for one more pass. The right to number the next one goes with the newest seat, so passes come in order.
+// A seat for one more pass. The right to number the next one goes with the newest seat, so passes
+// come in order.
 pub struct NextPass;
 
 impl<E, G> Split<SeatView<E, G>> for NextPass {

@@ -1,5 +1,6 @@
-// The rule of the lock's table. Its words are the turn, which is 0 or the number of the pass that has a hold, and the
-// count. Its one slot holds the value, or nothing while the value is out in a hold.
+// The rule of the lock's table. Its words are the turn, which is 0 or the number of the pass that
+// has a hold, and the count. Its one slot holds the value, or nothing while the value is out in a
+// hold.
 use crate::kept::Kept;
 use crate::view::SeatView;
 use atomic_table::{Seat, Shared, Table, TableRule};
@@ -28,7 +29,8 @@ pub struct Turns<T> {
 impl<T: Kept> TableRule<Option<T>, SeatView<T::Entry, T::Ground>, About<T>> for Turns<T> {
     ghost use Rattle.turn_lock.specs.Turns.{IsOneHistory, first_pass};
 
-    ghost holds = { λ about. IsOneHistory T.entries T.caller T.count T.basis (T.basis about.value.value) about.passes };
+    ghost holds = { λ about. IsOneHistory T.entries T.caller T.count T.basis
+        (T.basis about.value.value) about.passes };
 
     ghost first = { λ about. first_pass (T.basis about.value.value) (T.count about.value.value) };
 }

@@ -35,7 +35,8 @@ impl Kept for Log {
         self.items.len() as u64
     }
 
-    ghost counts_up = { λ x y more same longer. Prim.omega (arith, ap length longer, length-append x.items.items more) };
+    ghost counts_up = { λ x y more same longer. Prim.omega
+        (arith, ap length longer, length-append x.items.items more) };
 }
 
 impl Log {
@@ -66,7 +67,8 @@ fn put<R: Wait>(
     added
 }
 
-// A hundred entries, each in a hold of its own. Where one finds no memory, the log ends up too short.
+// A hundred entries, each in a hold of its own. Where one finds no memory, the log ends up too
+// short.
 fn put_hundred<R: Wait>(rt: &R, lock: &TurnLock<Log>, pass: &mut Pass<Log>)
     requires lock { IsOf lock.now pass.old }
     requires idle { pass.old.idle ≡ true }
@@ -81,7 +83,10 @@ fn put_hundred<R: Wait>(rt: &R, lock: &TurnLock<Log>, pass: &mut Pass<Log>)
 
 fn fill<R: Threads + Wait + Sync>(rt: &R, lock: &TurnLock<Log>, passes: &mut [Pass<Log>])
     requires { All (λ pass. IsOf lock.now pass × (pass.idle ≡ true)) passes.old }
-    ensures { (k : ℕ) (d : PassView (ℕ × ℕ) ℕ) → k < length passes.old → IsOf lock.now (slice_index_or passes.new k d) × ((slice_index_or passes.new k d).idle ≡ true) × ((slice_index_or passes.new k d).number ≡ (slice_index_or passes.old k d).number) }
+    ensures { (k : ℕ) (d : PassView (ℕ × ℕ) ℕ) → k < length passes.old
+        → IsOf lock.now (slice_index_or passes.new k d)
+        × ((slice_index_or passes.new k d).idle ≡ true)
+        × ((slice_index_or passes.new k d).number ≡ (slice_index_or passes.old k d).number) }
 {
     thread::for_each_mut(
         rt,
@@ -89,7 +94,8 @@ fn fill<R: Threads + Wait + Sync>(rt: &R, lock: &TurnLock<Log>, passes: &mut [Pa
         80,
         &|_: usize, pass: &mut Pass<Log>|
             requires { IsOf lock.now pass.old × (pass.old.idle ≡ true) }
-            ensures { IsOf lock.entry.now pass.new × (pass.new.idle ≡ true) × (pass.new.number ≡ pass.old.number) }
+            ensures { IsOf lock.entry.now pass.new × (pass.new.idle ≡ true)
+                × (pass.new.number ≡ pass.old.number) }
         { put_hundred(rt, lock, pass) },
     );
 }

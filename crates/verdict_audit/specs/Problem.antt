@@ -18,6 +18,7 @@ pub record IsKept (clauses : List (List ℕ)) (tags : List ℕ) (jobs : List Job
   pub few : length clauses ≤ most_clauses
   pub each : All (IsJobOver clauses) jobs
 
-pub record IsTaken (clauses : List (List ℕ)) (tags : List ℕ) (jobs : List Job) (greatest : ℕ) : Type 0 where
+pub record IsTaken (clauses : List (List ℕ)) (tags : List ℕ) (jobs : List Job)
+    (greatest : ℕ) : Type 0 where
   pub kept : IsKept clauses tags jobs
   pub most : greatest ≡ greatest_of_all clauses

@@ -1,7 +1,9 @@
 //! The audit of an output, line by line.
 
-ghost use Rattle.std.specs.Prelude.{◌≡◌, ◌<◌, ◌+◌, ◌^◌, ◌≢◌, ◌⊎◌, length, IfOk, MatchResult, Ok, Err};
-ghost use Rattle.verdict_audit.specs.Audit.{Audits, Ends, Finds, HasJob, Steps, found, is_beyond, start};
+ghost use Rattle.std.specs.Prelude.{◌≡◌, ◌<◌, ◌+◌, ◌^◌, ◌≢◌, ◌⊎◌, length, IfOk, MatchResult, Ok};
+ghost use Rattle.std.specs.Prelude.{Err};
+ghost use Rattle.verdict_audit.specs.Audit.{Audits, Ends, Finds, HasJob, Steps, found, is_beyond};
+ghost use Rattle.verdict_audit.specs.Audit.{start};
 ghost use Rattle.verdict_audit.specs.declared.findings.Wrong.TheVariants as wrong;
 ghost use Rattle.line_tokens.specs.Token.{lines_of};
 
@@ -47,7 +49,10 @@ fn step(
 ) -> Result<Place, Wrong>
     requires small { before + (length line.now + 1) < 2 ^ 64 }
     requires job { HasJob problem.now tally.old place }
-    ensures outcome { MatchResult result (λ next. Steps problem.now tally.old place before line.now (Ok (record { tally = tally.new; place = next }))) (λ why. (why ≡ wrong.Memory) ⊎ Steps problem.now tally.old place before line.now (Err why)) }
+    ensures outcome { MatchResult result
+        (λ next. Steps problem.now tally.old place before line.now
+        (Ok (record { tally = tally.new; place = next }))) (λ why. (why ≡ wrong.Memory)
+        ⊎ Steps problem.now tally.old place before line.now (Err why)) }
     ensures job { IfOk result (λ next. HasJob problem.now tally.new next) }
 {
     let place = close(alloc, place, line)?;
@@ -66,7 +71,8 @@ fn end(
     rest: &[u8],
 ) -> Result<Finding, Wrong>
     requires { before + length rest.now < 2 ^ 64 }
-    ensures { MatchResult result (λ finding. Ends tally place before rest.now (Ok finding)) (λ why. (why ≡ wrong.Memory) ⊎ Ends tally place before rest.now (Err why)) }
+    ensures { MatchResult result (λ finding. Ends tally place before rest.now (Ok finding))
+        (λ why. (why ≡ wrong.Memory) ⊎ Ends tally place before rest.now (Err why)) }
 {
     let place = close(alloc, place, rest)?;
     if is_beyond(before, rest.len()) {
@@ -109,18 +115,18 @@ fn audit_lines(alloc: Global, problem: &Problem, output: &[u8]) -> Result<Findin
     }
 }
 
-/// Audits an output that was written under `--trace` for an iCNF text: `Good` exactly where each line is
-/// right, otherwise the first wrong line and why.
+/// Audits an output that was written under `--trace` for an iCNF text: `Good` exactly where each
+/// line is right, otherwise the first wrong line and why.
 ///
-/// The blocks of the jobs 1, 2 and so on must be written as `verdict_text` writes them. A model must have
-/// exactly the job's variables and make each clause of the job and each literal of its cube true. A part
-/// must have literals of the job's cube alone, and below it a trace: each step ok over the job's clauses and
-/// the steps before it, and the last one's clause that of the part's negated literals. One last line must
-/// follow. `end` and `refused` must say what the text says, behind the blocks of all jobs; `fault read` and
-/// `memory` may stand behind any number of blocks.
+/// The blocks of the jobs 1, 2 and so on must be written as `verdict_text` writes them. A model
+/// must have exactly the job's variables and make each clause of the job and each literal of its
+/// cube true. A part must have literals of the job's cube alone, and below it a trace: each step ok
+/// over the job's clauses and the steps before it, and the last one's clause that of the part's
+/// negated literals. One last line must follow. `end` and `refused` must say what the text says,
+/// behind the blocks of all jobs; `fault read` and `memory` may stand behind any number of blocks.
 ///
-/// Takes memory for the text's clauses and for one block with a checker, and time in proportion to the
-/// output and, for each block with a model or a part, to the literals of the job's clauses.
+/// Takes memory for the text's clauses and for one block with a checker, and time in proportion to
+/// the output and, for each block with a model or a part, to the literals of the job's clauses.
 pub fn audit(alloc: Global, icnf: &[u8], output: &[u8]) -> Result<Finding, AllocError>
     ensures { IfOk result (λ finding. Audits icnf.now output.now finding) }
 {

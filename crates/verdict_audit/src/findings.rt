@@ -3,7 +3,8 @@
 /// What an audit finds.
 #[derive(Clone, Copy, Debug, PartialEq, Eq)]
 pub enum Finding {
-    /// The output is accepted: how many of its blocks have a model or a refuted part, and how many haven't.
+    /// The output is accepted: how many of its blocks have a model or a refuted part, and how many
+    /// haven't.
     Good { proved: u32, unproved: u32 },
     /// The first wrong line, counted from 1, and why.
     Bad(u64, Flaw),
@@ -14,8 +15,8 @@ pub enum Finding {
 pub enum Flaw {
     /// The byte behind the greatest length stands on it, or the text itself is longer.
     TooLong,
-    /// It isn't written as a line that can stand there, lacks its line feed, follows the last line, or is
-    /// one past the end of an output without a last line.
+    /// It isn't written as a line that can stand there, lacks its line feed, follows the last line,
+    /// or is one past the end of an output without a last line.
     Form,
     /// It begins the block of another job than the next one.
     Number,
@@ -23,7 +24,8 @@ pub enum Flaw {
     Model,
     /// Its part has a literal that the job's cube hasn't.
     Part,
-    /// Its step isn't the next one or isn't ok; or it ends the block of a part that no step refutes.
+    /// Its step isn't the next one or isn't ok; or it ends the block of a part that no step
+    /// refutes.
     Trace,
     /// It is a last line that doesn't agree with the text.
     Last,

@@ -1,12 +1,17 @@
 //! What one line of an output comes to.
 
-ghost use Rattle.std.specs.Prelude.{◌≡◌, ◌≤◌, ◌<◌, ◌+◌, ◌-◌, ◌⊎◌, ◌↔◌, ◌&&◌, if◌then◌else◌, nat_lt, codes, length, All, Contains, IfOk, IsTrue, MatchResult, Ok, Err};
+ghost use Rattle.std.specs.Prelude.{◌≡◌, ◌≤◌, ◌<◌, ◌+◌, ◌-◌, ◌⊎◌, ◌↔◌, ◌&&◌, if◌then◌else◌, nat_lt};
+ghost use Rattle.std.specs.Prelude.{codes, length, All, Contains, IfOk, IsTrue, MatchResult, Ok};
+ghost use Rattle.std.specs.Prelude.{Err};
 ghost use Rattle.sat_base.specs.Lit.{IsLitSet};
 ghost use Rattle.std.specs.Str.{bytes_eq};
 ghost use Rattle.line_tokens.specs.Token.{token_is_decimal, tokens_of};
 ghost use Rattle.verdict_text.specs.Line.{job_line_of, model_line_of, part_line_of};
 ghost use Rattle.verdict_text.specs.Text.{is_number};
-ghost use Rattle.verdict_audit.specs.Audit.{Closes, HasJob, JudgesLine, JudgesPart, JudgesStep, State, at_job_line, at_last_line, at_model, begun, is_end_of_tokens, is_reason, is_stop, one_more, with_proved, with_unproved, tags_of};
+ghost use Rattle.verdict_audit.specs.Audit.{Closes, HasJob, JudgesLine, JudgesPart, JudgesStep};
+ghost use Rattle.verdict_audit.specs.Audit.{State, at_job_line, at_last_line, at_model, begun};
+ghost use Rattle.verdict_audit.specs.Audit.{is_end_of_tokens, is_reason, is_stop, one_more};
+ghost use Rattle.verdict_audit.specs.Audit.{with_proved, with_unproved, tags_of};
 ghost use Rattle.verdict_audit.specs.Case.{Case, clauses_of, cube_of, inputs_of, variables_of};
 ghost use Rattle.trace_text.specs.Text.{next_step};
 ghost use Rattle.verdict_audit.specs.declared.places.Place.TheVariants as place;
@@ -111,7 +116,9 @@ fn is_count(word: &[u8], number: &[u8]) -> bool
 }
 
 fn is_refusal(word: &[u8], number: &[u8], reason: &[u8]) -> bool
-    ensures { result ≡ (bytes_eq word.now (codes "refused") && (token_is_decimal number.now && is_reason reason.now)) }
+    ensures { result
+        ≡ (bytes_eq word.now (codes "refused") &&
+        (token_is_decimal number.now && is_reason reason.now)) }
 {
     word == b"refused".as_slice() && (is_decimal(number) && is_reason(reason))
 }
@@ -134,7 +141,11 @@ fn is_end(line: &[u8]) -> bool
 
 // Takes a last line.
 fn take_last_line(problem: &Problem, tally: Tally, line: &[u8]) -> Result<Place, Flaw>
-    ensures outcome { MatchResult result (λ next. at_last_line problem.now tally line.now ≡ Ok (record { tally = tally; place = next })) (λ why. at_last_line problem.now tally line.now ≡ Err (wrong.Line why)) }
+    ensures outcome { MatchResult result
+        (λ next. at_last_line problem.now tally line.now
+        ≡ Ok
+        (record { tally = tally; place = next })) (λ why. at_last_line problem.now tally line.now
+        ≡ Err (wrong.Line why)) }
 {
     if is_stop(line) {
         return Ok(Place::End);
@@ -151,7 +162,11 @@ fn take_last_line(problem: &Problem, tally: Tally, line: &[u8]) -> Result<Place,
 
 // Takes the first line of the next job's block, or a last line.
 fn take_job_line(problem: &Problem, tally: &mut Tally, line: &[u8]) -> Result<Place, Flaw>
-    ensures taken { MatchResult result (λ next. at_job_line problem.now tally.old line.now (job_line_of line.now) ≡ Ok (record { tally = tally.new; place = next })) (λ why. at_job_line problem.now tally.old line.now (job_line_of line.now) ≡ Err (wrong.Line why)) }
+    ensures taken { MatchResult result
+        (λ next. at_job_line problem.now tally.old line.now (job_line_of line.now)
+        ≡ Ok (record { tally = tally.new; place = next }))
+        (λ why. at_job_line problem.now tally.old line.now (job_line_of line.now)
+        ≡ Err (wrong.Line why)) }
     ensures job { IfOk result (λ next. HasJob problem.now tally.new next) }
 {
     let Some(found) = read_job_line(line) else {
@@ -167,7 +182,10 @@ fn take_job_line(problem: &Problem, tally: &mut Tally, line: &[u8]) -> Result<Pl
 fn take_model(alloc: Global, problem: &Problem, tally: Tally, line: &[u8]) -> Result<Place, Wrong>
     requires there { 0 < tally.begun }
     requires within { tally.begun ≤ length problem.now.queries }
-    ensures outcome { MatchResult result (λ next. at_model problem.now tally (model_line_of line.now) ≡ Ok (record { tally = tally; place = next })) (λ why. (why ≡ wrong.Memory) ⊎ (at_model problem.now tally (model_line_of line.now) ≡ Err why)) }
+    ensures outcome { MatchResult result
+        (λ next. at_model problem.now tally (model_line_of line.now)
+        ≡ Ok (record { tally = tally; place = next })) (λ why. (why ≡ wrong.Memory)
+        ⊎ (at_model problem.now tally (model_line_of line.now) ≡ Err why)) }
     ensures block { IfOk result (λ next. next ≡ place.Block) }
 {
     let Some(model) = read_model_line(alloc, line)? else {
@@ -182,7 +200,8 @@ fn take_model(alloc: Global, problem: &Problem, tally: Tally, line: &[u8]) -> Re
     Ok(Place::Block)
 }
 
-// Whether each of the literals stands in the cube. Both ascend, so one pass over the cube finds them.
+// Whether each of the literals stands in the cube. Both ascend, so one pass over the cube finds
+// them.
 fn is_within(part: &[Lit], cube: &[Lit]) -> bool
     requires part { IsLitSet part.now }
     requires cube { IsLitSet cube.now }
@@ -201,7 +220,10 @@ fn is_within(part: &[Lit], cube: &[Lit]) -> bool
 fn take_part(alloc: Global, problem: &Problem, tally: Tally, line: &[u8]) -> Result<Place, Wrong>
     requires there { 0 < tally.begun }
     requires within { tally.begun ≤ length problem.now.queries }
-    ensures outcome { MatchResult result (λ next. JudgesPart problem.now tally (part_line_of line.now) (Ok (record { tally = tally; place = next }))) (λ why. (why ≡ wrong.Memory) ⊎ JudgesPart problem.now tally (part_line_of line.now) (Err why)) }
+    ensures outcome { MatchResult result
+        (λ next. JudgesPart problem.now tally (part_line_of line.now)
+        (Ok (record { tally = tally; place = next }))) (λ why. (why ≡ wrong.Memory)
+        ⊎ JudgesPart problem.now tally (part_line_of line.now) (Err why)) }
     ensures job { IfOk result (λ next. HasJob problem.now tally next) }
 {
     let Some(part) = read_part_line(alloc, line)? else {
@@ -223,7 +245,11 @@ fn take_step(
     line: &[u8],
 ) -> Result<Place, Wrong>
     requires job { HasJob problem.now tally (place.Step proof) }
-    ensures outcome { MatchResult result (λ next. JudgesStep tally proof (next_step (tags_of proof.inputs) proof.steps line.now) (Ok (record { tally = tally; place = next }))) (λ why. (why ≡ wrong.Memory) ⊎ JudgesStep tally proof (next_step (tags_of proof.inputs) proof.steps line.now) (Err why)) }
+    ensures outcome { MatchResult result
+        (λ next. JudgesStep tally proof (next_step (tags_of proof.inputs) proof.steps line.now)
+        (Ok (record { tally = tally; place = next }))) (λ why. (why ≡ wrong.Memory)
+        ⊎ JudgesStep tally proof (next_step (tags_of proof.inputs) proof.steps line.now)
+        (Err why)) }
     ensures job { IfOk result (λ next. HasJob problem.now tally next) }
 {
     let step = match read_step(alloc, problem.tags(tally.begun), proof.steps(), line) {
@@ -247,7 +273,10 @@ pub(crate) fn take_line(
     line: &[u8],
 ) -> Result<Place, Wrong>
     requires job { HasJob problem.now tally.old place }
-    ensures outcome { MatchResult result (λ next. JudgesLine problem.now tally.old place line.now (Ok (record { tally = tally.new; place = next }))) (λ why. (why ≡ wrong.Memory) ⊎ JudgesLine problem.now tally.old place line.now (Err why)) }
+    ensures outcome { MatchResult result
+        (λ next. JudgesLine problem.now tally.old place line.now
+        (Ok (record { tally = tally.new; place = next }))) (λ why. (why ≡ wrong.Memory)
+        ⊎ JudgesLine problem.now tally.old place line.now (Err why)) }
     ensures job { IfOk result (λ next. HasJob problem.now tally.new next) }
 {
     match place {
@@ -264,8 +293,10 @@ pub(crate) fn take_line(
 
 /// Ends the block of a part before a line that belongs to no trace.
 pub(crate) fn close(alloc: Global, place: Place, line: &[u8]) -> Result<Place, Wrong>
-    ensures closed { MatchResult result (λ next. Closes place line.now (Ok next)) (λ why. (why ≡ wrong.Memory) ⊎ Closes place line.now (Err why)) }
-    ensures job { IfOk result (λ next. (case : Case) (tally : Tally) → HasJob case tally place → HasJob case tally next) }
+    ensures closed { MatchResult result (λ next. Closes place line.now (Ok next))
+        (λ why. (why ≡ wrong.Memory) ⊎ Closes place line.now (Err why)) }
+    ensures job { IfOk result
+        (λ next. (case : Case) (tally : Tally) → HasJob case tally place → HasJob case tally next) }
 {
     match place {
         Place::Step(proof) => {

@@ -1,8 +1,8 @@
 //! The audit of an output: whether what a run wrote for a text is right.
 //!
-//! The layer above uses that `audit` answers `Good` exactly where each line of an output is right, and
-//! otherwise names the first wrong line and why. This crate knows nothing of the solver: it stands on the
-//! readers of texts, on the form of blocks and on the checker of steps alone.
+//! The layer above uses that `audit` answers `Good` exactly where each line of an output is right,
+//! and otherwise names the first wrong line and why. This crate knows nothing of the solver: it
+//! stands on the readers of texts, on the form of blocks and on the checker of steps alone.
 #![tactic(auto)]
 
 mod auditing;

@@ -1,6 +1,7 @@
 //! Where in an output an audit stands.
 
-ghost use Rattle.std.specs.Prelude.{◌≡◌, ◌↔◌, ℕ, Contains, [], ◌∷◌, ◌++◌, map, None, IfOk, IfSome, IsTrue};
+ghost use Rattle.std.specs.Prelude.{◌≡◌, ◌↔◌, ℕ, Contains, [], ◌∷◌, ◌++◌, map, None, IfOk, IfSome};
+ghost use Rattle.std.specs.Prelude.{IsTrue};
 ghost use Rattle.trace_core.specs.Known.{known};
 ghost use Rattle.trace_core.specs.Trace.{IsOkStep, known_of};
 ghost use Rattle.verdict_audit.specs.Audit.{IsRefuted};
@@ -10,8 +11,8 @@ use std::alloc::{AllocError, Global};
 use std::marker::Model;
 use trace_core::{Checker, Step};
 
-/// A part, and the steps so far of its trace, all of which were ok. Contracts see the part, the input
-/// clauses, and the steps.
+/// A part, and the steps so far of its trace, all of which were ok. Contracts see the part, the
+/// input clauses, and the steps.
 #[derive(Debug, Drop)]
 pub(crate) struct Proof {
     part: Cube,
@@ -26,7 +27,11 @@ impl Model for Proof {
 
     ghost Value = { Proof };
 
-    ghost view = { λ proof. record { part = proof.part; inputs = proof.checker.inputs; steps = proof.steps.items } };
+    ghost view = { λ proof. record {
+      part = proof.part;
+      inputs = proof.checker.inputs;
+      steps = proof.steps.items;
+    } };
 
     ghost invariant = { λ proof. proof.checker.steps ≡ map known_of proof.steps.items };
 }
@@ -53,9 +58,19 @@ impl Proof {
 
     /// Takes a step where it is ok.
     pub(crate) fn with(self, step: Step) -> Result<Option<Proof>, AllocError>
-        ensures taken { IfOk result (λ found. IfSome found (λ proof. IsOkStep (known self.inputs [] (map known_of self.steps)) step
-            × (proof ≡ record { part = self.part; inputs = self.inputs; steps = self.steps ++ step ∷ [] }))) }
-        ensures refused { IfOk result (λ found. found ≡ None → ¬ IsOkStep (known self.inputs [] (map known_of self.steps)) step) }
+        ensures taken { IfOk result
+            (λ found. IfSome found
+            (λ proof. IsOkStep (known self.inputs [] (map known_of self.steps)) step
+            × (proof
+            ≡ record {
+              part = self.part;
+              inputs = self.inputs;
+              steps = self.steps
+                  ++ step ∷ [];
+            }))) }
+        ensures refused { IfOk result
+            (λ found. found ≡ None
+            → ¬ IsOkStep (known self.inputs [] (map known_of self.steps)) step) }
     {
         let Proof {
             part,

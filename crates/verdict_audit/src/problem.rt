@@ -1,9 +1,11 @@
 //! What an audit takes from an iCNF text.
 
-ghost use Rattle.std.specs.Prelude.{◌≡◌, ◌≤◌, ◌<◌, ◌-◌, ◌&&◌, [], List, ℕ, All, map, length, slice_index_or, IfOk};
+ghost use Rattle.std.specs.Prelude.{◌≡◌, ◌≤◌, ◌<◌, ◌-◌, ◌&&◌, [], List, ℕ, All, map, length};
+ghost use Rattle.std.specs.Prelude.{slice_index_or, IfOk};
 ghost use Rattle.sat_base.specs.Truth.{all_true, cube_true};
 ghost use Rattle.verdict_audit.specs.Audit.{tags_of};
-ghost use Rattle.verdict_audit.specs.Case.{Case, case_of, clauses_of, cube_of, inputs_of, known_of_clause, variables_of};
+ghost use Rattle.verdict_audit.specs.Case.{Case, case_of, clauses_of, cube_of, inputs_of};
+ghost use Rattle.verdict_audit.specs.Case.{known_of_clause, variables_of};
 ghost use Rattle.verdict_audit.specs.Problem.{IsJobOver, query_in};
 
 use crate::taking::{Job, Taken, last_line, take_all};
@@ -13,8 +15,8 @@ use std::alloc::{AllocError, Global};
 use std::marker::Model;
 use trace_core::Checker;
 
-/// The clauses and jobs of a text, and the last line of its whole output without the line feed. Jobs are
-/// numbered from 1.
+/// The clauses and jobs of a text, and the last line of its whole output without the line feed.
+/// Jobs are numbered from 1.
 #[derive(Debug, Drop)]
 pub(crate) struct Problem {
     clauses: Vec<Clause>,
@@ -30,9 +32,14 @@ impl Model for Problem {
 
     ghost Value = { Case };
 
-    ghost view = { λ problem. record { clauses = problem.clauses.items; queries = map query_in problem.jobs.items; last = problem.last.items } };
+    ghost view = { λ problem. record {
+      clauses = problem.clauses.items;
+      queries = map query_in problem.jobs.items;
+      last = problem.last.items;
+    } };
 
-    ghost invariant = { λ problem. IsKept problem.clauses.items problem.tags.items problem.jobs.items };
+    ghost invariant = { λ problem. IsKept
+        problem.clauses.items problem.tags.items problem.jobs.items };
 }
 
 // The statements and the first wrong place of a text.
@@ -63,8 +70,10 @@ fn read(alloc: Global, text: &[u8]) -> Result<Problem, AllocError>
 fn job_at(jobs: &[Job], number: u64) -> &Job
     requires there { 0 < number }
     requires within { number ≤ length jobs.now }
-    ensures query { query_in result.now ≡ slice_index_or (map query_in jobs.now) (number - 1) (record { inputs = 0; cube = [] }) }
-    ensures each { (clauses : List (List ℕ)) → All (IsJobOver clauses) jobs.now → IsJobOver clauses result.now }
+    ensures query { query_in result.now
+        ≡ slice_index_or (map query_in jobs.now) (number - 1) (record { inputs = 0; cube = [] }) }
+    ensures each { (clauses : List (List ℕ)) → All (IsJobOver clauses) jobs.now
+        → IsJobOver clauses result.now }
 {
     &jobs[(number - 1) as usize]
 }
@@ -140,7 +149,9 @@ impl Problem {
     pub(crate) fn is_satisfied(&self, number: u64, model: &Assign) -> bool
         requires there { 0 < number }
         requires within { number ≤ length self.now.queries }
-        ensures { result ≡ (all_true model.now (clauses_of self.now number) && cube_true model.now (cube_of self.now number)) }
+        ensures { result
+            ≡ (all_true model.now (clauses_of self.now number) && cube_true model.now
+            (cube_of self.now number)) }
     {
         let job = job_at(&self.jobs, number);
         satisfies(model, &self.clauses[..job.inputs], &job.cube)

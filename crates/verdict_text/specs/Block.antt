@@ -1,5 +1,6 @@
 -- Verdict blocks: what a block shows, and its text.
-use Rattle.std.specs.Prelude.{ℕ, ◌+◌, ◌*◌, ◌≡◌, ◌≤◌, if◌then◌else◌, Bool, List, [], ◌∷◌, ◌++◌, length, codes, decimal}
+use Rattle.std.specs.Prelude.{ℕ, ◌+◌, ◌*◌, ◌≡◌, ◌≤◌, if◌then◌else◌, Bool, List, [], ◌∷◌, ◌++◌}
+use Rattle.std.specs.Prelude.{length, codes, decimal}
 use Rattle.std.specs.List.{flat_map}
 use Rattle.std.specs.Arc.{arc_value}
 use Rattle.sat_base.specs.Lit.{IsLitSet}
@@ -35,8 +36,10 @@ model_lits var (value ∷ values) = lit_with var value ∷ model_lits (var + 1) 
 
 -- what stands behind the job's number, where the job has so many inputs
 abbrev pub shown_text : ℕ → Shown → List ℕ
-shown_text inputs (shown.Model values) = codes " SATISFIABLE\nv " ++ flat_map lit_text (model_lits 1 values) ++ codes "0\n"
-shown_text inputs (shown.Refuted part steps) = codes " UNSATISFIABLE\nf " ++ flat_map lit_text part ++ codes "0\n" ++ steps_text inputs 0 steps
+shown_text inputs (shown.Model values) =
+    codes " SATISFIABLE\nv " ++ flat_map lit_text (model_lits 1 values) ++ codes "0\n"
+shown_text inputs (shown.Refuted part steps) =
+    codes " UNSATISFIABLE\nf " ++ flat_map lit_text part ++ codes "0\n" ++ steps_text inputs 0 steps
 shown_text inputs shown.Unknown = codes " UNKNOWN\n"
 shown_text inputs shown.Cancelled = codes " CANCELLED\n"
 shown_text inputs shown.NoMemory = codes " NOMEMORY\n"
@@ -44,7 +47,8 @@ shown_text inputs shown.NoMemory = codes " NOMEMORY\n"
 abbrev pub block_text : ℕ → Printed → List ℕ
 block_text inputs printed = codes "j " ++ decimal printed.job ++ shown_text inputs printed.shown
 
--- What can be written: a model within the greatest variable, and steps whose hints are inputs and earlier steps.
+-- What can be written: a model within the greatest variable, and steps whose hints are inputs and
+-- earlier steps.
 abbrev pub IsPrintable : ℕ → Shown → Type 0
 IsPrintable inputs (shown.Model values) = length values ≤ 8388607
 IsPrintable inputs (shown.Refuted part steps) = CiteEarlier inputs 0 steps
@@ -53,7 +57,8 @@ IsPrintable inputs _ = Unit {0}
 -- what the types of a part and of steps keep besides
 abbrev pub IsWellFormed : ℕ → Shown → Type 0
 IsWellFormed inputs (shown.Model values) = length values ≤ 8388607
-IsWellFormed inputs (shown.Refuted part steps) = IsLitSet part × ArePrinted inputs steps (steps_text inputs 0 steps)
+IsWellFormed inputs (shown.Refuted part steps) =
+    IsLitSet part × ArePrinted inputs steps (steps_text inputs 0 steps)
 IsWellFormed inputs _ = Unit {0}
 
 -- the text is this block, over so many inputs

@@ -1,5 +1,6 @@
 -- What one line of a block says: the form of each kind of line.
-use Rattle.std.specs.Prelude.{ℕ, ◌+◌, ◌==◌, ◌&&◌, not, if◌then◌else◌, Bool, false, true, Option, Some, None, List, [], ◌∷◌, map, codes, option_and_then}
+use Rattle.std.specs.Prelude.{ℕ, ◌+◌, ◌==◌, ◌&&◌, not, if◌then◌else◌, Bool, false, true, Option}
+use Rattle.std.specs.Prelude.{Some, None, List, [], ◌∷◌, map, codes, option_and_then}
 use Rattle.std.specs.Option.{option_map}
 use Rattle.std.specs.Str.{bytes_eq}
 use Rattle.sat_base.specs.Lit.{is_ascending, is_negative, variable}
@@ -22,7 +23,8 @@ status_of word =
 unfoldable pub job_line_of_tokens : List (List ℕ) → Option JobLine
 job_line_of_tokens (letter ∷ number ∷ word ∷ []) =
     if bytes_eq letter (codes "j") && token_is_decimal number
-    then option_map (λ (s : Status). record { number = number_of number; status = s }) (status_of word)
+    then option_map (λ (s : Status). record { number = number_of number; status = s })
+    (status_of word)
     else None
 job_line_of_tokens _ = None
 
@@ -37,7 +39,8 @@ is_letter letter (first ∷ tokens) = bytes_eq first (letter ∷ [])
 -- this letter, literals and `0`
 abbrev pub lits_of_tokens : ℕ → List (List ℕ) → Option (List ℕ)
 lits_of_tokens letter [] = None
-lits_of_tokens letter (first ∷ tokens) = if bytes_eq first (letter ∷ []) then all_then_zero lit_of tokens else None
+lits_of_tokens letter (first ∷ tokens) =
+    if bytes_eq first (letter ∷ []) then all_then_zero lit_of tokens else None
 
 -- literals of this variable, the next one, and so on
 abbrev pub are_variables_from : ℕ → List ℕ → Bool
@@ -46,7 +49,8 @@ are_variables_from var (lit ∷ lits) = variable lit == var && are_variables_fro
 
 -- the values that make literals of the variables 1, 2 and so on true
 abbrev pub values_of : List ℕ → Option (List Bool)
-values_of lits = if are_variables_from 1 lits then Some (map (λ lit. not (is_negative lit)) lits) else None
+values_of lits =
+    if are_variables_from 1 lits then Some (map (λ lit. not (is_negative lit)) lits) else None
 
 -- a model: the letter `v`, and a literal for each variable
 abbrev pub model_line_of : List ℕ → Option (List Bool)
@@ -54,7 +58,9 @@ model_line_of line = option_and_then values_of (lits_of_tokens 118 (tokens_of li
 
 -- a part: the letter `f`, and literals in strictly ascending order
 abbrev pub part_line_of : List ℕ → Option (List ℕ)
-part_line_of line = option_and_then (λ lits. if is_ascending lits then Some lits else None) (lits_of_tokens 102 (tokens_of line))
+part_line_of line =
+    option_and_then (λ lits. if is_ascending lits then Some lits else None)
+    (lits_of_tokens 102 (tokens_of line))
 
 -- a line of a trace begins with the letter `t`
 abbrev pub is_trace_line_of : List ℕ → Bool

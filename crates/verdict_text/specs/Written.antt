@@ -12,7 +12,8 @@ HasExactTags tags (shown.Refuted part steps) = HaveExactTags tags [] steps
 HasExactTags tags _ = Unit {0}
 
 -- the text is the block of the job behind so many, over as many inputs as that job has
-pub record IsWritten (tags sizes : List ℕ) (before : ℕ) (printed : Printed) (text : List ℕ) : Type 0 where
+pub record IsWritten (tags sizes : List ℕ) (before : ℕ) (printed : Printed)
+    (text : List ℕ) : Type 0 where
   pub job : printed.job ≡ before + 1
   pub has_size : before < length sizes
   pub block : IsBlock (slice_index sizes before) printed text
@@ -23,4 +24,5 @@ abbrev pub AreWritten : List ℕ → List ℕ → ℕ → List Printed → List 
 AreWritten tags sizes before [] [] = Unit {0}
 AreWritten tags sizes before [] (text ∷ texts) = ⊥
 AreWritten tags sizes before (printed ∷ blocks) [] = ⊥
-AreWritten tags sizes before (printed ∷ blocks) (text ∷ texts) = IsWritten tags sizes before printed text × AreWritten tags sizes (before + 1) blocks texts
+AreWritten tags sizes before (printed ∷ blocks) (text ∷ texts) =
+    IsWritten tags sizes before printed text × AreWritten tags sizes (before + 1) blocks texts

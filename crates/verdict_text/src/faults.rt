@@ -5,8 +5,8 @@ use std::alloc::AllocError;
 /// Why a text isn't a list of blocks. Lines are counted from 1.
 #[derive(Clone, Copy, Debug, PartialEq, Eq)]
 pub enum BlockFault {
-    /// That line isn't one that can stand there, or lacks its line feed; one past the last line where the
-    /// text ends inside a block.
+    /// That line isn't one that can stand there, or lacks its line feed; one past the last line
+    /// where the text ends inside a block.
     Form(u64),
     /// Memory was refused.
     Memory,

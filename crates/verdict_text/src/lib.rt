@@ -1,9 +1,9 @@
 //! Verdict blocks as text.
 //!
-//! A block is what a run writes for one job: its verdict, and under it a model, or a refuted part with its
-//! trace. The layers above use that `block` writes exactly these lines, that `read` accepts exactly them,
-//! names the first wrong one and gives back what was written, and, for an audit, what single lines say.
-//! This crate knows no run, no last line and no job's clauses.
+//! A block is what a run writes for one job: its verdict, and under it a model, or a refuted part
+//! with its trace. The layers above use that `block` writes exactly these lines, that `read`
+//! accepts exactly them, names the first wrong one and gives back what was written, and, for an
+//! audit, what single lines say. This crate knows no run, no last line and no job's clauses.
 #![tactic(auto)]
 
 mod blocks;

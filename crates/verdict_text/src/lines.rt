@@ -4,7 +4,8 @@ ghost use Rattle.std.specs.Prelude.{◌≡◌, map, not, IfOk};
 ghost use Rattle.std.specs.Option.{option_map};
 ghost use Rattle.sat_base.specs.Lit.{is_negative};
 ghost use Rattle.line_tokens.specs.Token.{tokens_of};
-ghost use Rattle.verdict_text.specs.Line.{are_variables_from, is_trace_line_of, job_line_of, lits_of_tokens, model_line_of, part_line_of, status_of};
+ghost use Rattle.verdict_text.specs.Line.{are_variables_from, is_trace_line_of, job_line_of};
+ghost use Rattle.verdict_text.specs.Line.{lits_of_tokens, model_line_of, part_line_of, status_of};
 
 use line_tokens::{cut_at, is_decimal, lits_then_zero, read_number};
 use sat_base::{Assign, Cube, Lit, is_strictly_ascending};
@@ -55,9 +56,9 @@ fn read_status(token: &[u8]) -> Option<Status>
     None
 }
 
-/// The first line of a block: `j N` and one of `SATISFIABLE`, `UNSATISFIABLE`, `UNKNOWN`, `CANCELLED` and
-/// `NOMEMORY`, with one space between two tokens and N in decimal digits without leading zeros. `None`
-/// where it isn't written so.
+/// The first line of a block: `j N` and one of `SATISFIABLE`, `UNSATISFIABLE`, `UNKNOWN`,
+/// `CANCELLED` and `NOMEMORY`, with one space between two tokens and N in decimal digits without
+/// leading zeros. `None` where it isn't written so.
 pub fn read_job_line(line: &[u8]) -> Option<JobLine>
     ensures { result ≡ job_line_of line.now }
 {
@@ -87,7 +88,9 @@ pub fn read_job_line(line: &[u8]) -> Option<JobLine>
 
 // The literals of a line that begins with this letter.
 fn read_lits(alloc: Global, letter: u8, line: &[u8]) -> Result<Option<Vec<Lit>>, AllocError>
-    ensures { IfOk result (λ found. option_map (λ lits. lits.items) found ≡ lits_of_tokens letter (tokens_of line.now)) }
+    ensures { IfOk result
+        (λ found. option_map (λ lits. lits.items) found
+        ≡ lits_of_tokens letter (tokens_of line.now)) }
 {
     let Some((first, tokens)) = cut_at(line, b' ') else {
         return Ok(None);
@@ -121,8 +124,8 @@ fn values_of(alloc: Global, lits: &[Lit]) -> Result<Vec<bool>, AllocError>
     Ok(values)
 }
 
-/// The model that a line writes: `v`, the literals of the variables 1, 2 and so on with the sign of their
-/// value, and `0`. `None` where it isn't written so.
+/// The model that a line writes: `v`, the literals of the variables 1, 2 and so on with the sign of
+/// their value, and `0`. `None` where it isn't written so.
 pub fn read_model_line(alloc: Global, line: &[u8]) -> Result<Option<Assign>, AllocError>
     ensures { IfOk result (λ found. found ≡ model_line_of line.now) }
 {
@@ -135,8 +138,8 @@ pub fn read_model_line(alloc: Global, line: &[u8]) -> Result<Option<Assign>, All
     Ok(Some(Assign::of(values_of(alloc, &lits)?)))
 }
 
-/// The refuted part that a line writes: `f`, literals in strictly ascending order, and `0`. `None` where it
-/// isn't written so.
+/// The refuted part that a line writes: `f`, literals in strictly ascending order, and `0`. `None`
+/// where it isn't written so.
 pub fn read_part_line(alloc: Global, line: &[u8]) -> Result<Option<Cube>, AllocError>
     ensures { IfOk result (λ found. found ≡ part_line_of line.now) }
 {

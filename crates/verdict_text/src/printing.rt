@@ -5,7 +5,8 @@ ghost use Rattle.std.specs.List.{flat_map};
 ghost use Rattle.sat_base.specs.Lit.{IsLitSet};
 ghost use Rattle.line_tokens.specs.Token.{lit_text};
 ghost use Rattle.trace_text.specs.Text.{CiteEarlier};
-ghost use Rattle.verdict_text.specs.Block.{IsBlock, IsPrintable, IsWellFormed, lit_with, model_lits, shown_of, shown_of_answer, shown_text};
+ghost use Rattle.verdict_text.specs.Block.{IsBlock, IsPrintable, IsWellFormed, lit_with};
+ghost use Rattle.verdict_text.specs.Block.{model_lits, shown_of, shown_of_answer, shown_text};
 ghost use Rattle.verdict_text.specs.declared.blocks.Shown.TheVariants as shown;
 
 use entry_core::{Answer, Verdict};
@@ -28,7 +29,8 @@ fn print_value(out: &mut Vec<u8>, variable: u64, value: bool) -> Result<(), Allo
 
 // Adds the literals that the values make true, each with a space behind it.
 fn print_values(out: &mut Vec<u8>, values: &[bool]) -> Result<(), AllocError>
-    ensures { OnOk result (out.new.items ≡ out.old.items ++ flat_map lit_text (model_lits 1 values.now)) }
+    ensures { OnOk result
+        (out.new.items ≡ out.old.items ++ flat_map lit_text (model_lits 1 values.now)) }
 {
     for (index, value) in values.iter().enumerate() {
         print_value(out, index as u64 + 1, *value)?;
@@ -50,7 +52,8 @@ fn print_model(out: &mut Vec<u8>, values: &[bool]) -> Result<(), AllocError>
 fn print_part(out: &mut Vec<u8>, inputs: u64, part: &Cube, steps: &[Step]) -> Result<(), AllocError>
     requires inputs { inputs ≤ 16777216 }
     requires earlier { CiteEarlier inputs 0 steps.now }
-    ensures written { OnOk result (out.new.items ≡ out.old.items ++ shown_text inputs (shown.Refuted part.now steps.now)) }
+    ensures written { OnOk result
+        (out.new.items ≡ out.old.items ++ shown_text inputs (shown.Refuted part.now steps.now)) }
     ensures formed { OnOk result (IsWellFormed inputs (shown.Refuted part.now steps.now)) }
 {
     out.extend_from_slice(b" UNSATISFIABLE\nf ")?;
@@ -68,7 +71,8 @@ fn print_answer(
 ) -> Result<(), AllocError>
     requires inputs { inputs ≤ 16777216 }
     requires printable { IsPrintable inputs (shown_of_answer trace answer.now) }
-    ensures written { OnOk result (out.new.items ≡ out.old.items ++ shown_text inputs (shown_of_answer trace answer.now)) }
+    ensures written { OnOk result
+        (out.new.items ≡ out.old.items ++ shown_text inputs (shown_of_answer trace answer.now)) }
     ensures formed { OnOk result (IsWellFormed inputs (shown_of_answer trace answer.now)) }
 {
     match answer {
@@ -92,7 +96,8 @@ fn print_verdict(
 ) -> Result<(), AllocError>
     requires inputs { inputs ≤ 16777216 }
     requires printable { IsPrintable inputs (shown_of trace verdict.now) }
-    ensures written { OnOk result (out.new.items ≡ out.old.items ++ shown_text inputs (shown_of trace verdict.now)) }
+    ensures written { OnOk result
+        (out.new.items ≡ out.old.items ++ shown_text inputs (shown_of trace verdict.now)) }
     ensures formed { OnOk result (IsWellFormed inputs (shown_of trace verdict.now)) }
 {
     match verdict {
@@ -103,11 +108,11 @@ fn print_verdict(
     }
 }
 
-/// The block of a job, where `inputs` is the number of its input clauses: `j N` and the word of its verdict;
-/// under `SATISFIABLE` a line `v` with the literal of each variable that the model makes true and `0`; under
-/// `UNSATISFIABLE` a line `f` with the literals of the part and `0`, and with `trace` the trace lines of its
-/// steps. A model has at most 8,388,607 values, and with `trace` each hint of a step is an input or an
-/// earlier step.
+/// The block of a job, where `inputs` is the number of its input clauses: `j N` and the word of its
+/// verdict; under `SATISFIABLE` a line `v` with the literal of each variable that the model makes
+/// true and `0`; under `UNSATISFIABLE` a line `f` with the literals of the part and `0`, and with
+/// `trace` the trace lines of its steps. A model has at most 8,388,607 values, and with `trace`
+/// each hint of a step is an input or an earlier step.
 pub fn block(
     alloc: Global,
     job: u32,
@@ -117,7 +122,9 @@ pub fn block(
 ) -> Result<Vec<u8>, AllocError>
     requires inputs { inputs ≤ 16777216 }
     requires printable { IsPrintable inputs (shown_of trace verdict.now) }
-    ensures { IfOk result (λ text. IsBlock inputs (record { job = job; shown = shown_of trace verdict.now }) text.items) }
+    ensures { IfOk result
+        (λ text. IsBlock inputs
+        (record { job = job; shown = shown_of trace verdict.now }) text.items) }
 {
     let mut out = Vec::new(alloc);
     out.extend_from_slice(b"j ")?;

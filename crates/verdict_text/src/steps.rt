@@ -1,12 +1,14 @@
 //! What one line leaves to a reader of blocks.
 
-ghost use Rattle.std.specs.Prelude.{◌≡◌, ◌<◌, ◌≤◌, ◌+◌, [], ◌∷◌, ◌++◌, nat_lt, ◌&&◌, if◌then◌else◌, Some, None, length, All, IfOk, IfSome, OnOk};
+ghost use Rattle.std.specs.Prelude.{◌≡◌, ◌<◌, ◌≤◌, ◌+◌, [], ◌∷◌, ◌++◌, nat_lt, ◌&&◌, if◌then◌else◌};
+ghost use Rattle.std.specs.Prelude.{Some, None, length, All, IfOk, IfSome, OnOk};
 ghost use Rattle.std.specs.Option.{option_map};
 ghost use Rattle.trace_text.specs.Text.{next_step};
 ghost use Rattle.verdict_text.specs.Line.{job_line_of, model_line_of};
 ghost use Rattle.verdict_text.specs.declared.blocks.Shown.TheVariants as shown;
 ghost use Rattle.verdict_text.specs.declared.steps.Due.TheVariants as due;
-ghost use Rattle.verdict_text.specs.Text.{HasJob, Reading, after_job_line, after_line, begun, finished, is_number, with_block, with_model, with_step};
+ghost use Rattle.verdict_text.specs.Text.{HasJob, Reading, after_job_line, after_line, begun};
+ghost use Rattle.verdict_text.specs.Text.{finished, is_number, with_block, with_model, with_step};
 
 use crate::{
     JobLine, Printed, Shown, Status, is_trace_line, read_job_line, read_model_line, read_part_line,
@@ -53,7 +55,8 @@ fn is_next(jobs: usize, done: usize, line: &JobLine) -> bool
 // Takes the status of the next job.
 fn begin(done: &mut Vec<Printed>, status: Status) -> Result<Due, AllocError>
     requires { length done.old.items < 4294967295 }
-    ensures { IfOk result (λ due. begun done.old.items status ≡ record { done = done.new.items; due = due }) }
+    ensures { IfOk result
+        (λ due. begun done.old.items status ≡ record { done = done.new.items; due = due }) }
 {
     match status {
         Status::Satisfiable => Ok(Due::Model),
@@ -81,8 +84,11 @@ fn take_job_line(
 ) -> Result<Option<Due>, AllocError>
     requires jobs { jobs ≤ 4294967295 }
     requires done { length done.old.items ≤ jobs }
-    ensures taken { IfOk result (λ found. after_job_line jobs done.old.items (job_line_of line.now) ≡ option_map (λ due. record { done = done.new.items; due = due }) found) }
-    ensures job { IfOk result (λ found. IfSome found (λ due. HasJob jobs (length done.new.items) due)) }
+    ensures taken { IfOk result
+        (λ found. after_job_line jobs done.old.items (job_line_of line.now)
+        ≡ option_map (λ due. record { done = done.new.items; due = due }) found) }
+    ensures job { IfOk result
+        (λ found. IfSome found (λ due. HasJob jobs (length done.new.items) due)) }
 {
     let Some(found) = read_job_line(line) else {
         return Ok(None);
@@ -114,7 +120,8 @@ fn take_step(
     Ok(Some(Steps::of(items)))
 }
 
-// Takes a line behind this part and these steps, which belongs to their trace or begins the next block.
+// Takes a line behind this part and these steps, which belongs to their trace or begins the next
+// block.
 fn take_traced(
     alloc: Global,
     tags: &[u32],
@@ -127,8 +134,11 @@ fn take_traced(
     requires jobs { length sizes.now ≤ 4294967295 }
     requires sizes { All (λ size. size ≤ length tags.now) sizes.now }
     requires job { length done.old.items < length sizes.now }
-    ensures taken { IfOk result (λ found. after_line tags.now sizes.now done.old.items (due.Step part steps) line.now ≡ option_map (λ due. record { done = done.new.items; due = due }) found) }
-    ensures job { IfOk result (λ found. IfSome found (λ due. HasJob (length sizes.now) (length done.new.items) due)) }
+    ensures taken { IfOk result
+        (λ found. after_line tags.now sizes.now done.old.items (due.Step part steps) line.now
+        ≡ option_map (λ due. record { done = done.new.items; due = due }) found) }
+    ensures job { IfOk result
+        (λ found. IfSome found (λ due. HasJob (length sizes.now) (length done.new.items) due)) }
 {
     if is_trace_line(line) {
         let size = sizes[done.len()] as usize;
@@ -148,8 +158,12 @@ fn take_model(
     line: &[u8],
 ) -> Result<Option<Due>, AllocError>
     requires { length done.old.items < 4294967295 }
-    ensures taken { IfOk result (λ found. with_model done.old.items (model_line_of line.now) ≡ option_map (λ due. record { done = done.new.items; due = due }) found) }
-    ensures job { IfOk result (λ found. IfSome found (λ next. (next ≡ due.Block) × (length done.new.items ≡ length done.old.items + 1))) }
+    ensures taken { IfOk result
+        (λ found. with_model done.old.items (model_line_of line.now)
+        ≡ option_map (λ due. record { done = done.new.items; due = due }) found) }
+    ensures job { IfOk result
+        (λ found. IfSome found
+        (λ next. (next ≡ due.Block) × (length done.new.items ≡ length done.old.items + 1))) }
 {
     let Some(model) = read_model_line(alloc, line)? else {
         return Ok(None);
@@ -170,8 +184,11 @@ pub(crate) fn take_line(
     requires jobs { length sizes.now ≤ 4294967295 }
     requires sizes { All (λ size. size ≤ length tags.now) sizes.now }
     requires job { HasJob (length sizes.now) (length done.old.items) due }
-    ensures taken { IfOk result (λ found. after_line tags.now sizes.now done.old.items due line.now ≡ option_map (λ due. record { done = done.new.items; due = due }) found) }
-    ensures job { IfOk result (λ found. IfSome found (λ due. HasJob (length sizes.now) (length done.new.items) due)) }
+    ensures taken { IfOk result
+        (λ found. after_line tags.now sizes.now done.old.items due line.now
+        ≡ option_map (λ due. record { done = done.new.items; due = due }) found) }
+    ensures job { IfOk result
+        (λ found. IfSome found (λ due. HasJob (length sizes.now) (length done.new.items) due)) }
 {
     match due {
         Due::Block => take_job_line(sizes.len(), done, line),
@@ -189,7 +206,8 @@ pub(crate) fn take_line(
 /// Takes the end of the text: whether it may end here.
 pub(crate) fn finish(done: &mut Vec<Printed>, due: Due) -> Result<bool, AllocError>
     requires { HasJob 4294967295 (length done.old.items) due }
-    ensures { IfOk result (λ whole. finished done.old.items due ≡ (if whole then Some done.new.items else None)) }
+    ensures { IfOk result
+        (λ whole. finished done.old.items due ≡ (if whole then Some done.new.items else None)) }
 {
     match due {
         Due::Block => Ok(true),

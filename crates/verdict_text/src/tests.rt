@@ -13,7 +13,8 @@ use std::sync::Arc;
 use std::test::Fail;
 use trace_core::{Hints, Step, Steps};
 
-// Texts of blocks of two jobs with two and three inputs, and how many blocks each has, or its fault.
+// Texts of blocks of two jobs with two and three inputs, and how many blocks each has, or its
+// fault.
 const TEXTS: [(&str, &[u8], Result<usize, BlockFault>); 26] = [
     ("no blocks", b"", Ok(0)),
     ("a model", b"j 1 SATISFIABLE\nv -1 2 0\n", Ok(1)),

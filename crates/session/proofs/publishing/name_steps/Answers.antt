@@ -1,5 +1,5 @@
 use Rattle.std.proofs.Common.{◌≤◌, length, refl, arith, get_or}
-use Rattle.session.proofs.Naming.{naming_starts, naming_next, naming_done, is_among}
+use Rattle.session.proofs.Renamed.{naming_starts, naming_next, naming_done, is_among}
 use Rattle.session.proofs.publishing.name_steps.Goals as goal
 
 pub loop-index-init : goal.loop-index-init

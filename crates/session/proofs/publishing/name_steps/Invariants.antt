@@ -1,4 +1,4 @@
-use Rattle.session.proofs.Naming.{IsNaming}
+use Rattle.session.proofs.Renamed.{IsNaming}
 use Rattle.session.proofs.publishing.name_steps.Given as goal
 
 abbrev pub invariant-loop-index : goal.invariant-loop-index

@@ -1,6 +1,6 @@
 use Rattle.std.proofs.Common.{◌<◌, ◌≤◌, length, ap, sym, subst, arith, get_or}
 use Rattle.trace_core.specs.Trace.{known_of}
-use Rattle.search_core.specs.Solver.{IsStep}
+use Rattle.session.specs.Solver.{IsStep}
 use Rattle.session.proofs.Learnt.{learnt_held, step_read}
 use Rattle.session.proofs.tests.first_learnt.Goals as goal
 

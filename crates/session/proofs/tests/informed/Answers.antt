@@ -1,7 +1,7 @@
 use Rattle.std.proofs.Common.{subst, sym}
 use Rattle.std.specs.Arc.{arc_value}
 use Rattle.trace_core.specs.Known.{Known}
-use Rattle.search_core.specs.Sharing.{IsTakable}
+use Rattle.session.specs.Sharing.{IsTakable}
 use Rattle.session.specs.Session.{SessionView}
 use Rattle.session.proofs.tests.informed.Goals as goal
 

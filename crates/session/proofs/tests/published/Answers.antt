@@ -1,6 +1,6 @@
 use Rattle.std.proofs.Common.{sym}
 use Rattle.std.specs.Arc.{arc_value}
-use Rattle.search_core.specs.Loading.{loaded}
+use Rattle.session.specs.Loading.{loaded}
 use Rattle.session.specs.Session.{no_inputs}
 use Rattle.session.proofs.Takable.{takable_over}
 use Rattle.session.proofs.tests.published.Goals as goal

@@ -1,14 +1,24 @@
-use Rattle.std.proofs.Common.{◌∙◌, refl}
+use Rattle.std.proofs.Common.{◌≡◌, ◌∙◌, ap, refl}
+use Rattle.board_core.specs.State.{State}
+use Rattle.tarmo_run.specs.Words.{rules_of}
 use Rattle.tarmo_run.proofs.Finishing.{ran_in_part, ran_through}
 use Rattle.tarmo_run.proofs.alone.run_over.Goals as goal
 
 pub returns-in-Ok-clause-run : goal.returns-in-Ok-clause-run
 returns-in-Ok-clause-run g c =
-    rw c.finish.ensures.parts
-    (ran_through c.args.command c.in-Ok.ending _ _ _ _ c.solve.new.desk _ _ c.status-status.result c.solve.ensures.rules c.finish.ensures.legal c.status-status.ensures c.in-Ok.ensures.finished)
+    let rules : c.new-desk.result.board.rules ≡ rules_of c.args.command =
+    ap (λ (board : State). board.rules) c.new-desk.ensures.board ∙ c.requires.rules in
+    rw c.give_back.ensures.parts
+    (ran_through c.args.command c.in-Ok.ending _ _ _ _ c.solve.new.desk.board _ _ c.status-status.result
+    (c.solve.ensures.rules ∙ rules) c.give_back.ensures.legal c.status-status.ensures
+    c.in-Ok.ensures.finished)
 
 pub returns-in-Err-clause-run : goal.returns-in-Err-clause-run
 returns-in-Err-clause-run g c =
-    rw c.finish-in-Err.ensures.parts
-    (ran_in_part c.args.command _ _ _ _ c.solve.new.desk c.give_up.new.self _ _ 4 (c.give_up.ensures.more.longer.rules ∙ c.solve.ensures.rules) c.finish-in-Err.ensures.legal refl
-    c.give_up.ensures.more c.give_up.ensures.settled c.in-Err.ensures.front)
+    let rules : c.new-desk.result.board.rules ≡ rules_of c.args.command =
+    ap (λ (board : State). board.rules) c.new-desk.ensures.board ∙ c.requires.rules in
+    rw c.give_back-in-Err.ensures.parts
+    (ran_in_part c.args.command _ _ _ _ c.solve.new.desk.board c.give_up.new.board _ _ 4
+    (c.give_up.ensures.more.longer.rules ∙ c.solve.ensures.rules ∙ rules)
+    c.give_back-in-Err.ensures.legal refl c.give_up.ensures.more c.give_up.ensures.settled
+    c.in-Err.ensures.front)

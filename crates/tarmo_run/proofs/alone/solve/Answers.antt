@@ -10,20 +10,28 @@ use Rattle.tarmo_run.proofs.alone.solve.Goals as goal
 pub returns-in_err-ending-clause-front : goal.returns-in_err-ending-clause-front
 returns-in_err-ending-clause-front g c =
     OnErr-always c.from_residual.result
-    (finished_in_blocks _ _ _ _ _ _ _ _ c.in_err-ending.ensures.in_part (c.in_err-ending.ensures.breaks _ (none_written _ _ _ c.requires.fresh)))
+    (finished_in_blocks _ _ _ _ _ _ _ _ c.in_err-ending.ensures.in_part
+    (c.in_err-ending.ensures.breaks _ (none_written _ _ _ c.requires.fresh)))
 
 pub returns-clause-finished : goal.returns-clause-finished
 returns-clause-finished g c =
-    IfOk-weaker c.close-2.result
-    (λ told. ((told ≡ c.in_ok-ending.ending) ⊎ (told ≡ endings.Exhausted)) × (g.O.Sink.taken c.close-2.new.out ≡ appended (g.O.Sink.taken c.show_blocks.new.out) (last_line_of told)))
+    IfOk-weaker c.close.result
+    (λ told. ((told ≡ c.in_ok-ending.ending) ⊎ (told ≡ endings.Exhausted))
+    × (g.O.Sink.taken c.close.new.out
+    ≡ appended (g.O.Sink.taken c.show_blocks.new.out) (last_line_of told)))
     _
-    (λ told h. finished _ c.in_ok-ending.ending told _ _ _ _ c.show_blocks.new.desk c.close.new.self _ _ _ c.in_ok-ending.ensures.through
-    (c.in_ok-ending.ensures.writes _ (none_written _ _ _ c.requires.fresh)) c.show_blocks.ensures.ready.few c.close.ensures.more (c.close.ensures.cancelled ∙ c.show_blocks.ensures.ready.none_cancelled) h.0 h.1)
-    c.close-2.ensures.told
+    (λ told h. finished _ c.in_ok-ending.ending told _ _ _ _ c.show_blocks.new.desk
+    c.close_input.new.board _ _ _ c.in_ok-ending.ensures.through
+    (c.in_ok-ending.ensures.writes _ (none_written _ _ _ c.requires.fresh))
+    c.show_blocks.ensures.between.counted.few c.close_input.ensures.more
+    (c.close_input.ensures.cancelled ∙ c.show_blocks.ensures.between.none_cancelled) h.0 h.1)
+    c.close.ensures.told
 
 pub returns-clause-front : goal.returns-clause-front
 returns-clause-front g c =
-    on_err_weaker c.close-2.result
-    (finished_in_line _ c.in_ok-ending.ending _ _ _ _ c.show_blocks.new.desk c.close.new.self _ _ _ c.in_ok-ending.ensures.through
-    (c.in_ok-ending.ensures.writes _ (none_written _ _ _ c.requires.fresh)) c.show_blocks.ensures.ready.few c.close.ensures.more)
-    c.close-2.ensures.front
+    on_err_weaker c.close.result
+    (finished_in_line _ c.in_ok-ending.ending _ _ _ _ c.show_blocks.new.desk
+    c.close_input.new.board _ _ _ c.in_ok-ending.ensures.through
+    (c.in_ok-ending.ensures.writes _ (none_written _ _ _ c.requires.fresh))
+    c.show_blocks.ensures.between.counted.few c.close_input.ensures.more)
+    c.close.ensures.front

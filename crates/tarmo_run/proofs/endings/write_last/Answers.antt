@@ -6,7 +6,7 @@ use Rattle.tarmo_run.proofs.endings.write_last.Goals as goal
 
 pub returns-clause-front : goal.returns-clause-front
 returns-clause-front g c =
-    OnErr-always c.flush.result (
+    OnErr-always _ (
       length c.args.line.now,
       c.flush.ensures.bytes ∙ c.in_ok-write_all.ensures.whole ∙ ap (appended (g.O.Sink.taken c.args.out.now)) (sym (take-length c.args.line.now)),
     )

@@ -1,11 +1,12 @@
-use Rattle.std.proofs.Common.{◌∙◌, ℕ, ◌<◌, ◌≤◌, length, subst, sym, rules}
+use Rattle.std.proofs.Common.{◌∙◌, ℕ, ◌<◌, ◌≤◌, length, refl, subst, sym, rules}
 use Rattle.tarmo_run.proofs.Reached.{ends_here, failing, goes_on, nearer, nothing_reached, piece_broke, piece_ended, piece_reached, rest_in_part, rest_through, still_unended, through_unread, unfailing}
 use Rattle.tarmo_run.proofs.Results.{OnErr-always}
 use Rattle.tarmo_run.proofs.pieces.answer_pieces.Goals as goal
 
 pub loop-count-init : goal.loop-count-init
 loop-count-init g c = record {
-  ready = c.requires.ready;
+  between = c.requires.between;
+  rules = refl;
   reached = nothing_reached c.new-reader.result c.args.desk.now _ c.new-reader.ensures c.requires.fresh;
   writes = λ before took. took;
   source_faults = search rules;
@@ -33,14 +34,14 @@ returns-then-count-eq0-clause-through g c =
 pub returns-then-count-eq0-clause-in_part : goal.returns-then-count-eq0-clause-in_part
 returns-then-count-eq0-clause-in_part g c =
     let room = subst (λ (n : ℕ). 0 < n) (sym c.loop-count.invariant.room) c.requires.room in
-    rest_in_part c.answer_rest.result _ _ _ c.in-Ok.count c.read.new.buf _ _ _ _ _
+    rest_in_part c.answer_rest.result _ c.loop-count.desk c.answer_rest.new.desk c.in-Ok.count c.read.new.buf _ _ _ _ _
     (ends_here _ _ c.in-Ok.count _ c.in-Ok.ensures.ended c.if-count-eq0.true room)
     c.if-count-eq0.true c.in-Ok.ensures.bytes c.loop-count.invariant.reached c.answer_rest.ensures.in_part
 
 pub returns-in_err-ending-clause-in_part : goal.returns-in_err-ending-clause-in_part
 returns-in_err-ending-clause-in_part g c =
     OnErr-always c.from_residual.result
-    (piece_broke _ _ _ _ _ _ _ _ _ (goes_on _ _ c.in-Ok.count _ c.in-Ok.ensures.ended c.loop-count.invariant.unended c.if-count-eq0.false)
+    (piece_broke _ c.loop-count.desk c.answer_piece.new.desk _ _ _ _ _ _ (goes_on _ _ c.in-Ok.count _ c.in-Ok.ensures.ended c.loop-count.invariant.unended c.if-count-eq0.false)
     c.in-Ok.ensures.bytes c.loop-count.invariant.reached c.in_err-ending.ensures.in_part)
 
 pub returns-in-Some-clause-through : goal.returns-in-Some-clause-through
@@ -56,7 +57,8 @@ loop-count-smaller g c =
 
 pub loop-count-preserved : goal.loop-count-preserved
 loop-count-preserved g c = record {
-  ready = c.answer_piece.ensures.ready;
+  between = c.answer_piece.ensures.between;
+  rules = c.answer_piece.ensures.rules ∙ c.loop-count.invariant.rules;
   reached = piece_reached _ _ _ _ _ _ _ _ c.in-Ok.ensures.bytes c.loop-count.invariant.reached (rw c.in-None.is at c.in_ok-ending.ensures.through);
   writes = λ before took. c.in_ok-ending.ensures.writes before (c.loop-count.invariant.writes before took);
   source_faults = c.in-Ok.ensures.cause.ok ∙ c.loop-count.invariant.source_faults;

@@ -1,14 +1,14 @@
 use Rattle.std.proofs.Common.{◌≡◌, ◌-◌, false, length}
-use Rattle.tarmo_run.specs.Desk.{IsReady}
-use Rattle.tarmo_run.specs.Written.{Writes}
+use Rattle.tarmo_run.specs.Desk.{IsBetweenPieces, Shows}
 use Rattle.tarmo_run.proofs.Reached.{Reached}
 use Rattle.tarmo_run.proofs.pieces.answer_pieces.Given as goal
 
 abbrev pub invariant-loop-count : goal.invariant-loop-count
 invariant-loop-count g l = record {
-  ready : IsReady l.command l.desk;
+  between : IsBetweenPieces l.desk;
+  rules : l.desk.board.rules ≡ l.fn.desk.board.rules;
   reached : Reached l.reader l.desk (g.S.Source.left l.fn.source) (g.S.Source.left l.source);
-  writes : Writes l.command.trace l.fn.desk l.desk (g.O.Sink.taken l.fn.out) (g.O.Sink.taken l.out);
+  writes : Shows l.trace l.fn.desk l.desk (g.O.Sink.taken l.fn.out) (g.O.Sink.taken l.out);
   source_faults : g.S.Source.faults l.source ≡ g.S.Source.faults l.fn.source;
   sink_faults : g.O.Sink.faults l.out ≡ g.O.Sink.faults l.fn.out;
   unended : g.S.Source.ended l.source ≡ false;

@@ -15,7 +15,7 @@ pub returns-in-None-clause-through : goal.returns-in-None-clause-through
 returns-in-None-clause-through g c = λ bytes failed unfailing up.
     let stopped = rw c.in-None.is at c.in_ok-ending-in-Ok.ensures.stops in
     through_complete c.args.reader c.args.desk.now c.answer_fed.new.desk c.jobs.result c.in-Ok.fed.statements c.in-Ok.fed.fault bytes failed unfailing up c.in-Ok.ensures.given c.in-Ok.ensures.fault
-    stopped.0 stopped.1 stopped.2 c.jobs.ensures
+    stopped.0 stopped.1 c.jobs.ensures
 
 pub returns-in-Err-clause-through : goal.returns-in-Err-clause-through
 returns-in-Err-clause-through g c = λ bytes failed unfailing up. through_before_end c.args.reader c.args.desk.now bytes failed up

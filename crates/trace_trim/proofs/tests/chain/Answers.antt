@@ -4,7 +4,7 @@ use Rattle.sat_base.proofs.Members.{Contains-cases}
 use Rattle.sat_base.specs.declared.origins.Ref.TheVariants.{Input, Own}
 use Rattle.trace_core.specs.declared.derivation.Step.{Step}
 use Rattle.trace_trim.specs.Packed.{CiteEarlierOwn}
-use Rattle.trace_trim.proofs.Zips.{slice_get-place}
+use Rattle.trace_core.proofs.Items.{item_at-found}
 use Rattle.trace_trim.proofs.tests.chain.Goals as goal
 
 not_input : (n m : ℕ) → Contains (Input n ∷ []) (Own m) → ⊥
@@ -38,7 +38,7 @@ back_at a b c first second third (suc (suc (suc i))) other step is has = absurd 
 
 chain_back : (a b c : Step) → a.hints ≡ Input 1 ∷ [] → b.hints ≡ Own 1 ∷ Input 2 ∷ [] → c.hints ≡ Own 2 ∷ Input 3 ∷ [] → CiteEarlierOwn (a ∷ b ∷ c ∷ [])
 chain_back a b c first second third user other step is has =
-    let at = slice_get-place (a ∷ b ∷ c ∷ []) user step is in
+    let at = item_at-found (a ∷ b ∷ c ∷ []) user step is in
     let back = back_at a b c first second third (user - 1) other step at.1 has in
     (back.0, omega (arith, at.0, back.1))
 

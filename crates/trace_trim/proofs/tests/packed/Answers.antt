@@ -2,7 +2,7 @@ use Rattle.std.proofs.Common.{subst, sym, arith}
 use Rattle.std.specs.Prelude.{IsSome}
 use Rattle.trace_core.specs.Known.{item_at}
 use Rattle.trace_trim.specs.Packed.{CiteEarlierOwn}
-use Rattle.trace_trim.proofs.OwnWalk.{item_at-there}
+use Rattle.trace_core.proofs.Items.{item_at-there}
 use Rattle.trace_trim.proofs.tests.packed.Goals as goal
 
 pub pack-requires-clause-last : goal.pack-requires-clause-last

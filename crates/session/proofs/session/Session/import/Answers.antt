@@ -1,8 +1,8 @@
 use Rattle.std.proofs.Common.{◌∙◌, ap}
 use Rattle.std.specs.Arc.{arc_value}
-use Rattle.search_core.specs.Solver.{packet_at}
-use Rattle.search_core.specs.Searching.{solver_of}
-use Rattle.search_core.proofs.Reserved.{for_any_cube}
+use Rattle.session.specs.Solver.{packet_at}
+use Rattle.session.specs.Searching.{solver_of}
+use Rattle.session.proofs.Reserved.{for_any_cube}
 use Rattle.session.specs.Session.{SessionView}
 use Rattle.session.proofs.Names.{names_fit_taken}
 use Rattle.session.proofs.session.Session.import.Goals as goal

@@ -6,9 +6,9 @@ use Rattle.trace_core.specs.Known.{Known, item_at}
 use Rattle.trace_core.specs.Trace.{known_of}
 use Rattle.trace_core.specs.declared.derivation.Step.{Step}
 use Rattle.trace_trim.specs.Packed.{CiteEarlierOwn, IsOkWhereOwnAreOk, HasGreatestTagLast, AreOfOwn, ends_in}
-use Rattle.search_core.specs.Solver.{IsStep, inputs_of, shared_by}
-use Rattle.search_core.specs.Searching.{packets_of, solver_of}
-use Rattle.search_core.proofs.Sound.{sound}
+use Rattle.session.specs.Solver.{IsStep, inputs_of, shared_by}
+use Rattle.session.specs.Searching.{packets_of, solver_of}
+use Rattle.session.proofs.Sound.{sound}
 use Rattle.session.specs.Session.{SessionView}
 use Rattle.session.specs.Publishing.{IsSharable}
 use Rattle.session.proofs.Names.{ok_look_back}

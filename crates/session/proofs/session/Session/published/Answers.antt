@@ -8,10 +8,10 @@ use Rattle.trace_core.specs.declared.derivation.Step.{Step}
 use Rattle.trace_trim.specs.Packed.{AreNumbersPacked, CiteEarlierOwn, IsPack, name_of}
 use Rattle.trace_trim.proofs.Order.{item_at-within}
 use Rattle.trace_trim.proofs.Packed.{packed_ends}
-use Rattle.search_core.specs.Solver.{Solver, IsStep, inputs_of, packet_at, shared_by}
-use Rattle.search_core.specs.Searching.{packets_of, solver_of}
-use Rattle.search_core.proofs.Reserved.{for_any_cube}
-use Rattle.search_core.proofs.Sound.{sound}
+use Rattle.session.specs.Solver.{Solver, IsStep, inputs_of, packet_at, shared_by}
+use Rattle.session.specs.Searching.{packets_of, solver_of}
+use Rattle.session.proofs.Reserved.{for_any_cube}
+use Rattle.session.proofs.Sound.{sound}
 use Rattle.session.specs.Session.{SessionView}
 use Rattle.session.specs.Publishing.{AreNamedAnew, AreNamesFit, Publishes}
 use Rattle.session.proofs.Names.{ok_look_back}

@@ -1,5 +1,5 @@
-use Rattle.search_core.specs.Searching.{solver_of}
-use Rattle.search_core.proofs.Reserved.{for_any_cube}
+use Rattle.session.specs.Searching.{solver_of}
+use Rattle.session.proofs.Reserved.{for_any_cube}
 use Rattle.session.proofs.Names.{names_fit_more, same_packets_keep}
 use Rattle.session.proofs.session.Session.solve_until_answered.Goals as goal
 

@@ -1,6 +1,6 @@
 use Rattle.std.proofs.Common.{[], subst}
-use Rattle.search_core.specs.Solver.{IsSound}
-use Rattle.search_core.proofs.Sound.{sound}
+use Rattle.session.specs.Solver.{IsSound}
+use Rattle.session.proofs.Sound.{sound}
 use Rattle.session.specs.Session.{SessionView}
 use Rattle.session.proofs.session.Session.steps.Goals as goal
 

@@ -1,6 +1,0 @@
-use Rattle.std.proofs.Common.{◌∙◌, length, ap}
-use Rattle.search_core.proofs.Loaded.{taken_back}
-use Rattle.search_core.proofs.inputs.load.Goals as goal
-
-pub returns-in-Err-clause-kept : goal.returns-in-Err-clause-kept
-returns-in-Err-clause-kept c = (taken_back c.reserve.new.search c.push_clauses.new.search c.args.cube.now c.truncate.new.self c.len-before.result c.in_ok-reserve.ensures.kept c.push_clauses.ensures.parts c.truncate.ensures.clauses (c.len-before.ensures.value ∙ ap length c.arena.ensures.value) c.truncate.ensures.vars).0

@@ -1,7 +1,0 @@
-use Rattle.std.proofs.Common.{drop}
-use Rattle.search_core.specs.Searching.{IsSearching}
-use Rattle.search_core.proofs.Loaded.{IsLoading}
-use Rattle.search_core.proofs.inputs.push_clauses.Given as goal
-
-abbrev pub invariant-loop-clause : goal.invariant-loop-clause
-invariant-loop-clause l = IsSearching l.search l.cube × IsLoading l.fn.search l.search l.clauses (drop l.clause-index l.clauses) l.job

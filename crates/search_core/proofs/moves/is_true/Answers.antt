@@ -1,5 +1,0 @@
-use Rattle.search_core.proofs.Choices.{value_decides}
-use Rattle.search_core.proofs.moves.is_true.Goals as goal
-
-pub returns-in-Some-clause-value : goal.returns-in-Some-clause-value
-returns-in-Some-clause-value c = value_decides c.args.trail.now c.args.lit c.in-Some.value c.value.ensures.trail c.in-Some.ensures.value

@@ -1,0 +1,95 @@
+-- What a search keeps between its steps.
+use Rattle.std.specs.Prelude.{◌≡◌, ◌⊎◌, ℕ, ◌<◌, ◌≤◌, List, [], ◌∷◌, ◌++◌, length, All, Contains, Option, option_map, map}
+use Rattle.std.specs.Arc.{arc_value}
+use Rattle.sat_base.specs.Lit.{greatest_of_all}
+use Rattle.sat_base.specs.declared.origins.Ref.{Ref}
+use Rattle.trace_core.specs.Known.{Known}
+use Rattle.trace_core.specs.declared.derivation.Step.{Step}
+use Rattle.clause_arena.specs.Arena.{clause_at, lits_of_each}
+use Rattle.trail_core.specs.Trail.{entry_at, lits_of}
+use Rattle.trail_core.specs.UnderTrail.{IsFalseClause}
+use Rattle.propagate.specs.Store.{AreAllWithin}
+use Rattle.session.specs.declared.search.Search.{Search}
+use Rattle.session.specs.Solver.{Solver, inputs_of, held_of, clauses_of, named_by, IsStep}
+use Rattle.session.specs.Fronts.{IsFront}
+use Rattle.session.specs.Stock.{IsStocked}
+use Rattle.session.specs.OnTrail.{IsOnTrail}
+use Rattle.session.specs.Units.{IsNamed}
+
+-- the packet of each place that is known
+abbrev pub packets_of : Search → List (Option (List Step))
+packets_of search = map (option_map arc_value) search.packets.items
+
+-- what references name to the search
+abbrev pub table_of : Search → Ref → Option Known
+table_of search = named_by (inputs_of search.store.clauses) (packets_of search) search.steps.items
+
+abbrev pub solver_of : Search → Solver
+solver_of search = record {
+  inputs = inputs_of search.store.clauses;
+  bound = search.bound;
+  held = held_of search.store.clauses;
+  steps = search.steps.items;
+  learnt = search.learnt.items;
+  packets = packets_of search;
+}
+
+-- The variables of the clauses are reserved everywhere.
+pub record IsRoomy (search : Search) : Type 0 where
+  pub over : AreAllWithin search.greatest search.store.clauses
+  pub reserved : search.greatest ≤ search.trail.vars
+  pub store : search.trail.vars ≤ search.store.vars
+  pub scratch : search.trail.vars ≤ search.scratch
+  pub units : search.trail.vars ≤ length search.units.items
+  pub tags : search.trail.vars ≤ length search.tags.items
+
+-- The counts agree with the clauses and steps, and the clause of each learnt step is held.
+pub record IsCounted (search : Search) : Type 0 where
+  pub greatest : search.greatest ≡ greatest_of_all (clauses_of (inputs_of search.store.clauses))
+  pub inputs : search.inputs ≡ length (inputs_of search.store.clauses)
+  pub learnt : All (λ number. (one : Known) × IsStep search.steps.items number one × Contains (held_of search.store.clauses) one) search.learnt.items
+
+pub record IsSearching (search : Search) (cube : List ℕ) : Type 0 where
+  pub stock : IsStocked search.store.clauses (packets_of search) search.steps.items search.bound
+  pub room : IsRoomy search
+  pub counted : IsCounted search
+  pub on : IsOnTrail (lits_of_each search.store.clauses) cube search.trail.entries search.trail.depth
+  pub named : IsNamed (table_of search) search.trail.entries search.units.items search.tags.items search.named
+  pub all_named : 0 < search.trail.depth → (place : ℕ) → place < length search.trail.entries → (entry_at search.trail.entries place).level ≡ 0 → place < search.named
+
+-- every unit clause of level 0 has its name
+pub record AreAllNamed (search : Search) : Type 0 where
+  pub each : (place : ℕ) → place < length search.trail.entries → (entry_at search.trail.entries place).level ≡ 0 → place < search.named
+
+-- steps of one literal came behind these
+pub record HasUnitsMore (old new : List Step) : Type 0 where
+  pub more : List Step
+  pub is : new ≡ old ++ more
+  pub units : All (λ step. length step.clause ≡ 1) more
+
+-- these ascend, above the first bound and up to the second
+abbrev pub AscendBetween : ℕ → List ℕ → ℕ → Type 0
+AscendBetween low [] high = low ≤ high
+AscendBetween low (number ∷ numbers) high = (low < number) × AscendBetween number numbers high
+
+-- Steps came behind these: those of these numbers, counted from 1, and others of one literal.
+pub record HasStepsMore (old new : List Step) (numbers : List ℕ) : Type 0 where
+  pub more : List Step
+  pub is : new ≡ old ++ more
+  pub ascend : AscendBetween (length old) numbers (length new)
+  pub each : (number : ℕ) (one : Known) → length old < number → IsStep new number one → Contains numbers number ⊎ (length one.clause ≡ 1)
+
+-- The same inputs, held clauses and learnt steps, after which own steps may have come.
+pub record IsSameSolver (old new : Search) : Type 0 where
+  pub inputs : inputs_of new.store.clauses ≡ inputs_of old.store.clauses
+  pub held : held_of new.store.clauses ≡ held_of old.store.clauses
+  pub learnt : new.learnt.items ≡ old.learnt.items
+  pub steps : IsFront old.steps.items new.steps.items
+  pub numbers : (new.greatest ≡ old.greatest) × (new.inputs ≡ old.inputs) × (new.bound ≡ old.bound)
+  pub packets : packets_of new ≡ packets_of old
+  pub vars : new.trail.vars ≡ old.trail.vars
+
+-- a clause that is false
+pub record IsConflict (search : Search) (id : ℕ) : Type 0 where
+  pub known : id < length search.store.clauses
+  pub refuted : IsFalseClause (lits_of search.trail.entries) (clause_at search.store.clauses id).lits

@@ -1,0 +1,122 @@
+//! What a search does with a clause that is false.
+
+ghost use Rattle.std.specs.Prelude.{◌≡◌, ℕ, ◌<◌, [], ◌∷◌, ◌++◌, length, Contains, OnOk, IfOk, IfSome, IfNone};
+ghost use Rattle.sat_base.specs.Lit.{IsLitSet};
+ghost use Rattle.sat_base.specs.declared.origins.Ref.TheVariants.{Own};
+ghost use Rattle.clause_arena.specs.Arena.{clause_at};
+ghost use Rattle.trail_core.specs.Trail.{IsTrail, lits_of, up_to};
+ghost use Rattle.trail_core.specs.UnderTrail.{IsFalseClause, IsOpenClause, IsUnassigned};
+ghost use Rattle.propagate.specs.Store.{AreWithin};
+ghost use Rattle.session.specs.Solver.{IsStep};
+ghost use Rattle.session.specs.Searching.{IsSearching, solver_of};
+ghost use Rattle.session.specs.Learning.{HasLearntOne};
+ghost use Rattle.session.specs.Lessons.{IsLesson};
+ghost use Rattle.session.specs.Solving.{Keeps};
+
+use crate::search::{Search, push_step};
+use analyze::learn;
+use sat_base::{Clause, Cube, Lit, Ref};
+use std::alloc::AllocError;
+use trace_core::Step;
+use trail_core::Trail;
+
+/// What a conflict teaches: a clause, the level at which it is unit, and the step that derives it.
+#[derive(Debug, Drop)]
+pub(crate) struct Lesson {
+    clause: Clause,
+    back: u32,
+    step: Step,
+}
+
+/// Learns a clause from a clause that is false above level 0, adds it to the store, goes back to where it is
+/// unit, and makes its literal true.
+pub(crate) fn learn_from(
+    search: &mut Search,
+    cube: &Cube,
+    conflict: usize,
+) -> Result<(), AllocError>
+    requires kept { IsSearching search.old cube.now }
+    requires trail { IsTrail search.old.trail }
+    requires deep { 0 < search.old.trail.depth }
+    requires known { conflict < length search.old.store.clauses }
+    requires refuted { IsFalseClause (lits_of search.old.trail.entries) (clause_at search.old.store.clauses conflict).lits }
+    ensures kept { IsSearching search.new cube.now }
+    ensures keeps { Keeps (solver_of search.old) (solver_of search.new) }
+    ensures ok { OnOk result (HasLearntOne search.old search.new) }
+{
+    let Lesson { clause, back, step } = analyze_conflict(search, cube, conflict)?;
+    let tag = step.tag;
+    let number = push_step(search, cube, step)?;
+    // Back first: where the clause finds no room, the trail stands as it should all the same.
+    search.trail.back_to(back);
+    let lit = unassigned(&search.trail, &clause);
+    let id = hold(search, cube, &clause, tag, number)?;
+    if let Some(lit) = lit {
+        search.trail.assign(lit, Some(id));
+    }
+    Ok(())
+}
+
+fn analyze_conflict(search: &mut Search, cube: &Cube, conflict: usize) -> Result<Lesson, AllocError>
+    requires kept { IsSearching search.old cube.now }
+    requires trail { IsTrail search.old.trail }
+    requires deep { 0 < search.old.trail.depth }
+    requires known { conflict < length search.old.store.clauses }
+    requires refuted { IsFalseClause (lits_of search.old.trail.entries) (clause_at search.old.store.clauses conflict).lits }
+    ensures same { search.new ≡ search.old }
+    ensures lesson { IfOk result (λ lesson. IsLesson search.old lesson) }
+{
+    let learnt = learn(
+        search.alloc,
+        &mut search.scratch,
+        search.store.arena(),
+        &search.units,
+        &search.tags,
+        &search.trail,
+        conflict,
+    )?;
+    Ok(Lesson {
+        clause: learnt.clause,
+        back: learnt.back,
+        step: learnt.step,
+    })
+}
+
+// Adds the clause of an own step to the store, lists the step as learnt, and answers the clause's number.
+fn hold(
+    search: &mut Search,
+    cube: &Cube,
+    clause: &Clause,
+    tag: u32,
+    number: u64,
+) -> Result<usize, AllocError>
+    requires kept { IsSearching search.old cube.now }
+    requires step { IsStep search.old.steps.items number (record { clause = clause.now; tag = tag }) }
+    requires set { IsLitSet clause.now }
+    requires within { AreWithin search.old.greatest clause.now }
+    requires open_below { (level : ℕ) → level < search.old.trail.depth → IsOpenClause (lits_of (up_to level search.old.trail.entries)) clause.now }
+    ensures kept { IsSearching search.new cube.now }
+    ensures parts { search.new ≡ record search.old { store = search.new.store; learnt = search.new.learnt } }
+    ensures keeps { Keeps (solver_of search.old) (solver_of search.new) }
+    ensures number { IfOk result (λ id. id ≡ length search.old.store.clauses) }
+    ensures held { OnOk result (search.new.store.clauses ≡ search.old.store.clauses ++ record { lits = clause.now; tag = tag; origin = Own number } ∷ []) }
+    ensures listed { OnOk result (search.new.learnt.items ≡ search.old.learnt.items ++ number ∷ []) }
+{
+    let id = search.store.add(clause, tag, Ref::Own(number))?;
+    search.learnt.push(number)?;
+    Ok(id)
+}
+
+// The first literal of the clause that is unassigned.
+fn unassigned(trail: &Trail, clause: &Clause) -> Option<Lit>
+    ensures set { IsLitSet clause.now }
+    ensures some { IfSome result (λ lit. Contains clause.now lit × IsUnassigned (lits_of trail.now.entries) lit) }
+    ensures none { IfNone result ((lit : ℕ) → Contains clause.now lit → IsUnassigned (lits_of trail.now.entries) lit → ⊥) }
+{
+    for lit in clause.lits() {
+        if trail.value(*lit).is_none() {
+            return Some(*lit);
+        }
+    }
+    None
+}

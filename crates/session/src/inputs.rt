@@ -1,0 +1,152 @@
+//! Inputs of a search.
+
+ghost use Rattle.std.specs.Prelude.{◌≡◌, ◌+◌, ◌<◌, ◌≤◌, ◌∷◌, [], length, take, OnOk, OnErr};
+ghost use Rattle.sat_base.specs.Lit.{greatest_of, greatest_of_all};
+ghost use Rattle.trail_core.specs.Trail.{IsTrail};
+ghost use Rattle.session.specs.Searching.{IsSearching, solver_of};
+ghost use Rattle.session.specs.Loading.{HasInputsOnly, HasInputsMore, loaded};
+
+use crate::search::Search;
+use sat_base::{Clause, Cube, Lit, Ref};
+use std::alloc::AllocError;
+
+/// Adds the clauses of the next job behind the inputs, and makes it the job that is loaded. The variables of
+/// its cube are reserved besides. After want of memory the solver is as before.
+pub fn load(search: &mut Search, cube: &Cube, clauses: &[Clause]) -> Result<(), AllocError>
+    requires kept { IsSearching search.old cube.now }
+    requires trail { IsTrail search.old.trail }
+    requires zero { search.old.trail.depth ≡ 0 }
+    requires few { search.old.inputs + length clauses.now ≤ 16777216 }
+    requires jobs { search.old.bound < 1048576 }
+    ensures kept { IsSearching search.new cube.now }
+    ensures zero { search.new.trail.depth ≡ 0 }
+    ensures ok { OnOk result (solver_of search.new ≡ loaded (solver_of search.old) clauses.now) }
+    ensures err { OnErr result (solver_of search.new ≡ solver_of search.old) }
+{
+    let vars = greatest_in(clauses).max(greatest_variable(cube.lits()));
+    reserve(search, cube, vars)?;
+    let job = search.bound + 1;
+    let before = search.store.arena().len();
+    let (greatest, inputs, bound) = (search.greatest, search.inputs, search.bound);
+    match push_clauses(search, cube, clauses, job) {
+        Ok(()) => {
+            search.bound = job;
+            Ok(())
+        }
+        Err(error) => {
+            search.store.truncate(before);
+            search.greatest = greatest;
+            search.inputs = inputs;
+            search.bound = bound;
+            Err(error)
+        }
+    }
+}
+
+// Adds inputs of this job, whose variables are reserved. After want of memory some of them may be there.
+fn push_clauses(
+    search: &mut Search,
+    cube: &Cube,
+    clauses: &[Clause],
+    job: u32,
+) -> Result<(), AllocError>
+    requires kept { IsSearching search.old cube.now }
+    requires zero { search.old.trail.depth ≡ 0 }
+    requires few { search.old.inputs + length clauses.now ≤ 16777216 }
+    requires reserved { greatest_of_all clauses.now ≤ search.old.trail.vars }
+    requires job { search.old.bound ≤ job }
+    ensures kept { IsSearching search.new cube.now }
+    ensures parts { HasInputsOnly search.old search.new }
+    ensures ok { OnOk result (HasInputsMore search.old search.new clauses.now job) }
+{
+    for clause in clauses {
+        push_clause(search, cube, clause, job)?;
+    }
+    Ok(())
+}
+
+// Adds an input of this job, whose variables are reserved.
+fn push_clause(
+    search: &mut Search,
+    cube: &Cube,
+    clause: &Clause,
+    job: u32,
+) -> Result<(), AllocError>
+    requires kept { IsSearching search.old cube.now }
+    requires zero { search.old.trail.depth ≡ 0 }
+    requires few { search.old.inputs < 16777216 }
+    requires reserved { greatest_of clause.now ≤ search.old.trail.vars }
+    requires job { search.old.bound ≤ job }
+    ensures kept { IsSearching search.new cube.now }
+    ensures parts { HasInputsOnly search.old search.new }
+    ensures inputs { OnOk result (search.new.inputs ≡ search.old.inputs + 1) }
+    ensures ok { OnOk result (HasInputsMore search.old search.new (clause.now ∷ []) job) }
+{
+    let number = search.inputs + 1;
+    search.store.add(clause, job, Ref::Input(number))?;
+    search.greatest = search.greatest.max(greatest_variable(clause.lits()));
+    search.inputs = number;
+    search.bound = job;
+    Ok(())
+}
+
+/// Reserves the variables 1 to `vars`; those that are reserved already stay so. The solver stays as it is.
+pub fn reserve(search: &mut Search, cube: &Cube, vars: u32) -> Result<(), AllocError>
+    requires kept { IsSearching search.old cube.now }
+    requires trail { IsTrail search.old.trail }
+    ensures kept { IsSearching search.new cube.now }
+    ensures solver { solver_of search.new ≡ solver_of search.old }
+    ensures depth { search.new.trail.depth ≡ search.old.trail.depth }
+    ensures numbers { (search.new.greatest ≡ search.old.greatest) × (search.new.inputs ≡ search.old.inputs) }
+    ensures clauses { search.new.store.clauses ≡ search.old.store.clauses }
+    ensures ok { OnOk result (vars ≤ search.new.trail.vars) }
+{
+    search.store.reserve(vars)?;
+    search.scratch.reserve(vars)?;
+    grow_units(&mut search.units, vars as usize)?;
+    grow_tags(&mut search.tags, vars as usize)?;
+    search.trail.reserve(vars)?;
+    Ok(())
+}
+
+fn grow_units(units: &mut Vec<Ref>, places: usize) -> Result<(), AllocError>
+    ensures front { take (length units.old.items) units.new.items ≡ units.old.items }
+    ensures ok { OnOk result (places ≤ length units.new.items) }
+{
+    if places <= units.len() {
+        return Ok(());
+    }
+    units.resize(places, Ref::Input(0))
+}
+
+fn grow_tags(tags: &mut Vec<u32>, places: usize) -> Result<(), AllocError>
+    ensures front { take (length tags.old.items) tags.new.items ≡ tags.old.items }
+    ensures ok { OnOk result (places ≤ length tags.new.items) }
+{
+    if places <= tags.len() {
+        return Ok(());
+    }
+    tags.resize(places, 0)
+}
+
+// The greatest variable, 0 if there is none.
+pub(crate) fn greatest_variable(lits: &[Lit]) -> u32
+    ensures { result ≡ greatest_of lits.now }
+{
+    let mut greatest: u32 = 0;
+    for lit in lits {
+        greatest = greatest.max(lit.var());
+    }
+    greatest
+}
+
+// The greatest variable of the clauses, 0 if there is none.
+fn greatest_in(clauses: &[Clause]) -> u32
+    ensures { result ≡ greatest_of_all clauses.now }
+{
+    let mut greatest: u32 = 0;
+    for clause in clauses {
+        greatest = greatest.max(greatest_variable(clause.lits()));
+    }
+    greatest
+}

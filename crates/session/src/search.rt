@@ -1,0 +1,81 @@
+//! What a solver keeps.
+
+ghost use Rattle.std.specs.Prelude.{◌≡◌, ℕ, List, ◌∷◌, [], ◌++◌, length, Some, IfOk, OnOk, OnErr};
+ghost use Rattle.sat_base.specs.declared.origins.Ref.TheVariants.{Own};
+ghost use Rattle.trace_core.specs.Trace.{IsOkStep, known_of};
+ghost use Rattle.session.specs.Searching.{IsSearching, solver_of, table_of};
+ghost use Rattle.session.specs.Fronts.{IsFront};
+
+use analyze::Scratch;
+use propagate::Store;
+use sat_base::{Cube, Ref};
+use std::alloc::{AllocError, Global};
+use std::sync::Arc;
+use trace_core::{Packet, Step};
+use trail_core::Trail;
+
+/// The parts of a solver. What they keep together is said in `specs/Searching.antt`.
+#[derive(Debug, Drop)]
+pub struct Search {
+    pub alloc: Global,
+    // The inputs, the learnt clauses and those that were taken in.
+    pub store: Store,
+    pub trail: Trail,
+    pub scratch: Scratch,
+    // For each variable of level 0 the name and the tag of the clause of its one true literal; the first
+    // so many literals of the trail have theirs.
+    pub units: Vec<Ref>,
+    pub tags: Vec<u32>,
+    pub named: usize,
+    // The greatest variable of the inputs, their number, and the number of the job that is loaded.
+    pub greatest: u32,
+    pub inputs: u32,
+    pub bound: u32,
+    // The shared packet of each place that is known, places counted from 1.
+    pub packets: Vec<Option<Arc<Packet>>>,
+    // The own steps, and the numbers of those that are learnt clauses.
+    pub steps: Vec<Step>,
+    pub learnt: Vec<u64>,
+}
+
+impl Search {
+    /// A search without inputs, at level 0. Takes no memory.
+    pub fn new(alloc: Global) -> Search
+        ensures kept { (cube : List ℕ) → IsSearching result cube }
+        ensures solver { solver_of result ≡ record { inputs = []; bound = 0; held = []; steps = []; learnt = []; packets = [] } }
+        ensures zero { result.trail.depth ≡ 0 }
+        ensures none { result.inputs ≡ 0 }
+    {
+        Search {
+            alloc,
+            store: Store::new(alloc),
+            trail: Trail::new(alloc),
+            scratch: Scratch::new(alloc),
+            units: Vec::new(alloc),
+            tags: Vec::new(alloc),
+            named: 0,
+            greatest: 0,
+            inputs: 0,
+            bound: 0,
+            packets: Vec::new(alloc),
+            steps: Vec::new(alloc),
+            learnt: Vec::new(alloc),
+        }
+    }
+}
+
+/// Adds an own step behind the others and answers its number.
+pub(crate) fn push_step(search: &mut Search, cube: &Cube, step: Step) -> Result<u64, AllocError>
+    requires kept { IsSearching search.old cube.now }
+    requires ok { IsOkStep (table_of search.old) step }
+    ensures kept { IsSearching search.new cube.now }
+    ensures parts { search.new ≡ record search.old { steps = search.new.steps } }
+    ensures pushed { OnOk result (search.new.steps.items ≡ search.old.steps.items ++ step ∷ []) }
+    ensures number { IfOk result (λ number. number ≡ length search.new.steps.items) }
+    ensures name { IfOk result (λ number. table_of search.new (Own number) ≡ Some (known_of step)) }
+    ensures err { OnErr result (search.new.steps.items ≡ search.old.steps.items) }
+    ensures front { IsFront search.old.steps.items search.new.steps.items }
+{
+    search.steps.push(step)?;
+    Ok(search.steps.len() as u64)
+}

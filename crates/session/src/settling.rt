@@ -1,0 +1,55 @@
+//! Propagation, and what comes with it.
+
+ghost use Rattle.std.specs.Prelude.{◌≡◌, ◌≤◌, length, IfOk, OnOk, IfSome, IfNone};
+ghost use Rattle.trail_core.specs.Trail.{IsTrail};
+ghost use Rattle.trail_core.specs.UnderTrail.{IsComplete};
+ghost use Rattle.clause_arena.specs.Arena.{lits_of_each};
+ghost use Rattle.session.specs.Searching.{IsSearching, IsSameSolver, IsConflict, HasUnitsMore, AreAllNamed};
+
+use crate::naming::name_units;
+use crate::search::Search;
+use propagate::propagate;
+use sat_base::Cube;
+use std::alloc::AllocError;
+
+/// Propagates, and where no clause is false, sees to it that the unit clauses of level 0 have names. Answers
+/// the number of a clause that is false, or none.
+pub(crate) fn settle(search: &mut Search, cube: &Cube) -> Result<Option<usize>, AllocError>
+    requires kept { IsSearching search.old cube.now }
+    requires trail { IsTrail search.old.trail }
+    ensures kept { IsSearching search.new cube.now }
+    ensures same { IsSameSolver search.old search.new }
+    ensures steps { HasUnitsMore search.old.steps.items search.new.steps.items }
+    ensures trail { IsTrail search.new.trail }
+    ensures grown { length search.old.trail.entries ≤ length search.new.trail.entries }
+    ensures conflict { IfOk result (λ found. IfSome found (IsConflict search.new)) }
+    ensures complete { IfOk result (λ found. IfNone found (IsComplete search.new.trail.entries search.new.trail.depth (lits_of_each search.new.store.clauses))) }
+    ensures all_named { IfOk result (λ found. IfNone found (AreAllNamed search.new)) }
+{
+    let found = propagate(&mut search.store, &mut search.trail);
+    match found {
+        Some(id) => {
+            let _ = search.trail.depth();
+            Ok(Some(id))
+        }
+        None => {
+            name_zero(search, cube)?;
+            Ok(None)
+        }
+    }
+}
+
+// Names the unit clauses of level 0, at that level; at higher ones they have their names.
+fn name_zero(search: &mut Search, cube: &Cube) -> Result<(), AllocError>
+    requires kept { IsSearching search.old cube.now }
+    ensures kept { IsSearching search.new cube.now }
+    ensures parts { search.new ≡ record search.old { units = search.new.units; tags = search.new.tags; named = search.new.named; steps = search.new.steps } }
+    ensures steps { HasUnitsMore search.old.steps.items search.new.steps.items }
+    ensures trail { IsTrail search.old.trail }
+    ensures all_named { OnOk result (AreAllNamed search.new) }
+{
+    if search.trail.depth() != 0 {
+        return Ok(());
+    }
+    name_units(search, cube)
+}
