@@ -62,7 +62,7 @@ steps_hold : (all : List Known) (before : List (List Known)) (own : List Known) 
     → ((named : Known) → Contains own named → Holds all named)
     → AreOkSteps all before own steps → (step : Step) → Contains steps step
     → Holds all (known_of step)
-steps_hold all before own [] packets each ok step has = absurd (nothing_in step has)
+steps_hold all before own [] packets each ok step has = nothing_in step has
 steps_hold all before own (first ∷ steps) packets each ok step has =
     here_or_later (λ later. steps_hold all before (own ++ known_of first ∷ []) steps packets more
     ok.1 step later)
@@ -116,10 +116,10 @@ packets_hold all before (packet ∷ packets) holds ok =
         old_or_new (inr same) within =
             steps_hold all (map (λ steps. map known_of steps) before) [] packet
             (so_far all before holds)
-            (λ named none. absurd (nothing_in named none)) ok.0 step
+            (λ named none. nothing_in named none) ok.0 step
             (subst (λ (xs : List Step). Contains xs step) (sym same) within)
 
 pub shared_steps_follow : SharedStepsFollow
 shared_steps_follow rules journal packet step legal has there =
-    packets_hold (inputs journal) [] (packets journal) (λ p s none. absurd (nothing_in p none))
+    packets_hold (inputs journal) [] (packets journal) (λ p s none. nothing_in p none)
     (packets_are_ok rules journal legal) packet step has there

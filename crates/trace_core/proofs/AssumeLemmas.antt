@@ -39,7 +39,7 @@ assumed_none marks lits free empty = record {
   uncovered = λ lit. (
     λ h. absurd (both_ways (holds marks lit) (free lit)
         (held_if_uncovered (get_or marks lit Free) h)),
-    λ h. absurd (nothing_in (opposite lit) h),
+    λ h. nothing_in (opposite lit) h,
   );
 }
 
@@ -102,7 +102,7 @@ not_covered clause i marks lit code lt is at uncovered each =
 
 -- what the joined literals of clauses have, one of the clauses has
 in_one : (clauses : List (List ℕ)) (lit : ℕ) → Contains (concat clauses) lit → StandsInOneOf clauses lit
-in_one [] lit none = absurd (nothing_in lit none)
+in_one [] lit none = nothing_in lit none
 in_one (clause ∷ clauses) lit has = first_or_later (λ h. in_one clauses lit h) (Contains-append_cases clause (concat clauses) lit has)
   where
     first_or_later : (Contains (concat clauses) lit → StandsInOneOf clauses lit) → Contains clause lit ⊎ Contains (concat clauses) lit → StandsInOneOf (clause ∷ clauses) lit

@@ -11,13 +11,13 @@ use Rattle.sat_base.proofs.Members.{Contains-here, Contains-there, Contains-case
 use Rattle.trace_core.specs.Known.{item_at}
 
 -- No list of none has an item.
-pub nothing_in : {X : Type 0} (x : X) → Contains [] x → ⊥
-nothing_in x (k, lt, is) = omega arith
+pub nothing_in : {X A : Type 0} (x : X) → Contains [] x → A
+nothing_in x (k, lt, is) = absurd (omega arith)
 
 -- What a filter lets through was there, and passes.
 pub Contains-from_filter : {X : Type 0} (p : X → Bool) (xs : List X) (x : X)
     → Contains (filter p xs) x → Contains xs x × IsTrue (p x)
-Contains-from_filter p [] x has = absurd (nothing_in x has)
+Contains-from_filter p [] x has = nothing_in x has
 Contains-from_filter p (y ∷ xs) x has =
     by_test (λ h. Contains-from_filter p xs x h) (cases_Bool (p y)) has
   where

@@ -17,7 +17,7 @@ use Rattle.trace_core.proofs.Items.{nothing_in}
 
 -- a scan that has looked at nothing
 pub found_none : (marks : List Mark) → IsFound marks [] Nothing
-found_none marks lit none = absurd (nothing_in lit none)
+found_none marks lit none = nothing_in lit none
 
 pub covered_none : (marks : List Mark) → CoveredBy marks [] marks
 covered_none marks = record {

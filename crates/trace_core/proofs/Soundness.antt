@@ -235,5 +235,5 @@ pub trace_is_sound : TraceIsSound
 trace_is_sound inputs part steps trace values all =
     sees_members values trace.last.clause (map opposite part)
     (All-from_members (Contains (map opposite part)) trace.last.clause (λ lit has. (Contains-negations part (map opposite part) refl lit).1 ((trace.refutes lit).0 has)))
-    (steps_follow inputs [] steps (λ k none. absurd (nothing_in k none)) trace.ok trace.last
+    (steps_follow inputs [] steps (λ k none. nothing_in k none) trace.ok trace.last
     (subst (λ (xs : List Step). Contains xs trace.last) (sym trace.ends) (Contains-push trace.front trace.last)) values all)

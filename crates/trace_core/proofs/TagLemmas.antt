@@ -17,7 +17,7 @@ known_more table hints i named lt is before = All-more (λ hint. IsSome (table h
 pub known_whole : (table : Ref → Option Known) (hints : List Ref) (i : ℕ) → length hints ≤ i → All (λ hint. IsSome (table hint)) (take i hints) → All (λ hint. IsSome (table hint)) hints
 known_whole table hints i le before = All-same (λ hint. IsSome (table hint)) hints (take i hints) (sym (take_all i hints le)) before
 
-max_assoc : (a b c : ℕ) → max (max a b) c ≡ max a (max b c)
+pub max_assoc : (a b c : ℕ) → max (max a b) c ≡ max a (max b c)
 max_assoc a b c = grind arith
 
 -- The greatest number of a list with one more at its end.

@@ -118,13 +118,13 @@ begun {X} cites before IsThere start met pending look single now = record {
   where
     only_here : (user : X) → (start ≡ user) ⊎ Contains [] user → start ≡ user
     only_here user (inl same) = same
-    only_here user (inr none) = absurd (nothing_in user none)
+    only_here user (inr none) = nothing_in user none
 
     only : (user : X) → Contains met user → start ≡ user
     only user has = only_here user (Contains-cases start user [] (subst (λ xs. Contains xs user) single has))
 
     citing : (other : X) → Contains [] other ⊎ cites start other → cites start other
-    citing other (inl none) = absurd (nothing_in other none)
+    citing other (inl none) = nothing_in other none
     citing other (inr h) = h
 
     cited : (other : X) → Contains pending other → cites start other
@@ -144,7 +144,7 @@ all_there {X} cites before IsThere start met walk one (user ∷ users) (citing, 
   where
     found : Contains met one ⊎ Contains [] one → Contains met one
     found (inl has) = has
-    found (inr none) = absurd (nothing_in one none)
+    found (inr none) = nothing_in one none
 
 pub Contains-reverse : {X : Type 0} (xs : List X) (x : X) → Contains xs x → Contains (reverse xs) x
 Contains-reverse xs x (k, lt, is) =
