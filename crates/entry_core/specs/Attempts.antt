@@ -1,5 +1,6 @@
 -- What a journal says of attempts: which were begun, which are open, which were spent.
-use Rattle.std.specs.Prelude.{ℕ, Bool, false, not, ◌&&◌, ◌==◌, Option, None, Some, List, filter_map, count_by}
+use Rattle.std.specs.Prelude.{ℕ, Bool, false, not, ◌&&◌, ◌==◌, Option, None, Some, List, filter_map}
+use Rattle.std.specs.Prelude.{count_by}
 use Rattle.std.specs.List.{list_any}
 use Rattle.trace_core.specs.Known.{item_at}
 use Rattle.entry_core.specs.declared.entries.Entry.{Entry}
@@ -12,7 +13,8 @@ pub record Attempt : Type 0 where
   pub job : ℕ
 
 abbrev pub begun_by : ℕ → Event → Option Attempt
-begun_by caller (event.Began job attempt) = Some (record { number = attempt; worker = caller; job = job })
+begun_by caller (event.Began job attempt) =
+    Some (record { number = attempt; worker = caller; job = job })
 begun_by caller _ = None
 
 -- The attempts that were begun, numbered from 1 in the order of their `Began` entries.
@@ -39,7 +41,8 @@ is_open journal attempt = not (list_any (λ number. number == attempt.number) (e
 
 -- how many attempts at the job are open
 abbrev pub open_attempts : List Entry → ℕ → ℕ
-open_attempts journal job = count_by (λ attempt. attempt.job == job && is_open journal attempt) (attempts journal)
+open_attempts journal job =
+    count_by (λ attempt. attempt.job == job && is_open journal attempt) (attempts journal)
 
 -- whether the attempt of that number is one at the job
 abbrev pub is_at : ℕ → Option Attempt → Bool
@@ -55,4 +58,5 @@ spent_by _ = None
 
 -- how many attempts at the job used up their budget
 abbrev pub spent_attempts : List Entry → ℕ → ℕ
-spent_attempts journal job = count_by (is_attempt_at journal job) (filter_map (λ entry. spent_by entry.event) journal)
+spent_attempts journal job =
+    count_by (is_attempt_at journal job) (filter_map (λ entry. spent_by entry.event) journal)

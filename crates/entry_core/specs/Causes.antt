@@ -1,5 +1,6 @@
 -- Why a job is settled as it is.
-use Rattle.std.specs.Prelude.{◌≡◌, ◌⊎◌, ℕ, ◌<◌, ◌≤◌, Bool, true, if◌then◌else◌, Option, None, Some, List, length, filter_map, All, Contains, IsTrue}
+use Rattle.std.specs.Prelude.{◌≡◌, ◌⊎◌, ℕ, ◌<◌, ◌≤◌, Bool, true, if◌then◌else◌, Option, None, Some}
+use Rattle.std.specs.Prelude.{List, length, filter_map, All, Contains, IsTrue}
 use Rattle.std.specs.Arc.{arc_value}
 use Rattle.sat_base.specs.Truth.{IsModelOf}
 use Rattle.entry_core.specs.declared.answers.Verdict.{Verdict}
@@ -15,7 +16,8 @@ use Rattle.entry_core.specs.Right.{IsRightAnswer, IsSpentFor}
 
 -- the clauses of a `Spent` entry of an attempt at the job
 abbrev pub spent_list_of : List Entry → ℕ → Event → Option (List (List ℕ))
-spent_list_of journal job (event.Spent number learnt) = if is_attempt_at journal job number then Some (arc_value learnt) else None
+spent_list_of journal job (event.Spent number learnt) =
+    if is_attempt_at journal job number then Some (arc_value learnt) else None
 spent_list_of journal job _ = None
 
 -- the lists of clauses that attempts at the job used up their budget on, in order
@@ -40,10 +42,12 @@ pub record IsStarved (journal : List Entry) (job : ℕ) : Type 0 where
   pub starved_attempt : Contains (starved journal) number
   pub own : IsTrue (is_attempt_at journal job number)
 
--- Why a job is settled so: by a right answer; by a client's cancel, or by an earlier job's model; by as many attempts as it may have,
--- each of which used up its budget on new clauses alone; by an attempt that found no memory.
+-- Why a job is settled so: by a right answer; by a client's cancel, or by an earlier job's model;
+-- by as many attempts as it may have, each of which used up its budget on new clauses alone; by an
+-- attempt that found no memory.
 abbrev pub HasCause : Rules → List Entry → ℕ → Verdict → Type 0
 HasCause rules journal job (verdict.Answered answer) = IsRightAnswer journal job (arc_value answer)
-HasCause rules journal job (verdict.Cancelled by) = ((by ≡ 0) × Contains (cancelled journal) job) ⊎ IsOvertaken rules journal job by
+HasCause rules journal job (verdict.Cancelled by) =
+    ((by ≡ 0) × Contains (cancelled journal) job) ⊎ IsOvertaken rules journal job by
 HasCause rules journal job verdict.Spent = IsUnknown rules journal job
 HasCause rules journal job verdict.Starved = IsStarved journal job

@@ -1,5 +1,8 @@
--- What a journal says of jobs and of the shared database. Each reading is a filter over the one list of entries.
-use Rattle.std.specs.Prelude.{ℕ, suc, ◌+◌, Bool, true, false, Option, None, Some, List, [], ◌∷◌, ◌++◌, map, length, filter, filter_map, sum_by, position, option_map, nat_le}
+-- What a journal says of jobs and of the shared database. Each reading is a filter over the one
+-- list of entries.
+use Rattle.std.specs.Prelude.{ℕ, suc, ◌+◌, Bool, true, false, Option, None, Some, List, [], ◌∷◌}
+use Rattle.std.specs.Prelude.{◌++◌, map, length, filter, filter_map, sum_by, position, option_map}
+use Rattle.std.specs.Prelude.{nat_le}
 use Rattle.std.specs.List.{list_any}
 use Rattle.std.specs.Arc.{arc_value}
 use Rattle.trace_core.specs.Known.{Known, item_at}
@@ -22,12 +25,16 @@ segments journal = filter_map (λ entry. segment_of entry.event) journal
 abbrev pub jobs : List Entry → ℕ
 jobs journal = length (segments journal)
 
--- the clauses of these segments, each with its job's number as its tag, the first job having this number
+-- the clauses of these segments, each with its job's number as its tag, the first job having this
+-- number
 abbrev pub tagged_from : ℕ → List Segment → List Known
 tagged_from job [] = []
-tagged_from job (segment ∷ rest) = map (λ clause. record { clause = clause; tag = job }) segment.clauses ++ tagged_from (suc job) rest
+tagged_from job (segment ∷ rest) =
+    map (λ clause. record { clause = clause; tag = job }) segment.clauses
+    ++ tagged_from (suc job) rest
 
--- The input clauses, numbered from 1 in the order in which they were added. The tag of each is the number of the first job that has it.
+-- The input clauses, numbered from 1 in the order in which they were added. The tag of each is the
+-- number of the first job that has it.
 abbrev pub inputs : List Entry → List Known
 inputs journal = tagged_from 1 (segments journal)
 

@@ -15,8 +15,11 @@ use Rattle.entry_core.specs.Causes.{HasCause}
 
 -- Every step of a shared packet follows from the input clauses up to its tag.
 abbrev pub SharedStepsFollow : Type 0
-SharedStepsFollow = (rules : Rules) (journal : List Entry) (packet : List Step) (step : Step) → IsLegal rules journal
-    → Contains (packets journal) packet → Contains packet step → Entails (clauses_of journal step.tag) step.clause
+SharedStepsFollow =
+    (rules : Rules) (journal : List Entry) (packet : List Step) (step : Step)
+    → IsLegal rules journal
+    → Contains (packets journal) packet → Contains packet step
+    → Entails (clauses_of journal step.tag) step.clause
 
 -- The shared packets are ok one after the other over the input clauses.
 abbrev pub PacketsAreOk : Type 0
@@ -49,18 +52,24 @@ pub record Keeps (rules : Rules) (journal longer : List Entry) : Type 0 where
   pub clauses : (job : ℕ) → job ≤ jobs journal → clauses_of longer job ≡ clauses_of journal job
   pub cubes : (job : ℕ) → job ≤ jobs journal → cube_of longer job ≡ cube_of journal job
   pub database : (more : List (List Step)) × (packets longer ≡ packets journal ++ more)
-  pub verdicts : (job : ℕ) (verdict : Verdict) → settled rules journal job ≡ Some verdict → settled rules longer job ≡ Some verdict
+  pub verdicts : (job : ℕ) (verdict : Verdict) → settled rules journal job ≡ Some verdict
+      → settled rules longer job ≡ Some verdict
 
 -- A longer journal keeps the jobs, the database and the verdicts.
 abbrev pub LongerJournalKeeps : Type 0
-LongerJournalKeeps = (rules : Rules) (journal more : List Entry) → Keeps rules journal (journal ++ more)
+LongerJournalKeeps =
+    (rules : Rules) (journal more : List Entry) → Keeps rules journal (journal ++ more)
 
 -- Each verdict of a legal journal has its cause.
 abbrev pub VerdictsHaveCauses : Type 0
-VerdictsHaveCauses = (rules : Rules) (journal : List Entry) (job : ℕ) (given : Verdict) → IsLegal rules journal
+VerdictsHaveCauses =
+    (rules : Rules) (journal : List Entry) (job : ℕ) (given : Verdict) → IsLegal rules journal
     → settled rules journal job ≡ Some given → HasCause rules journal job given
 
--- A job is never given up with a budget that is greater than the number of clauses over its variables.
+-- A job is never given up with a budget that is greater than the number of clauses over its
+-- variables.
 abbrev pub LargeBudgetsAnswer : Type 0
-LargeBudgetsAnswer = (rules : Rules) (journal : List Entry) (job : ℕ) → IsLegal rules journal → AreWithinLimits rules
-    → settled rules journal job ≡ Some verdict.Spent → rules.conflicts ≤ 3 ^ variables (clauses_of journal job) (cube_of journal job)
+LargeBudgetsAnswer =
+    (rules : Rules) (journal : List Entry) (job : ℕ) → IsLegal rules journal → AreWithinLimits rules
+    → settled rules journal job ≡ Some verdict.Spent
+    → rules.conflicts ≤ 3 ^ variables (clauses_of journal job) (cube_of journal job)

@@ -1,5 +1,6 @@
 -- Legal journals: each entry is allowed after the entries before it.
-use Rattle.std.specs.Prelude.{◌≡◌, ℕ, ◌+◌, ◌<◌, ◌≤◌, false, None, Some, IsSome, IsTrue, List, [], ◌∷◌, ◌++◌, length, All}
+use Rattle.std.specs.Prelude.{◌≡◌, ℕ, ◌+◌, ◌<◌, ◌≤◌, false, None, Some, IsSome, IsTrue, List, []}
+use Rattle.std.specs.Prelude.{◌∷◌, ◌++◌, length, All}
 use Rattle.std.specs.Arc.{arc_value}
 use Rattle.sat_base.specs.Lit.{IsTautology, greatest_of, greatest_of_all}
 use Rattle.trace_core.specs.Trace.{AreOkSteps}
@@ -10,7 +11,8 @@ use Rattle.entry_core.specs.declared.entries.Entry.{Entry}
 use Rattle.entry_core.specs.declared.entries.Event.{Event}
 use Rattle.entry_core.specs.declared.entries.Event.TheVariants as event
 use Rattle.entry_core.specs.declared.rules.Rules.{Rules}
-use Rattle.entry_core.specs.Journal.{jobs, inputs, inputs_of, clauses_of, literals, segment_literals, packets, shared, is_closed}
+use Rattle.entry_core.specs.Journal.{jobs, inputs, inputs_of, clauses_of, literals}
+use Rattle.entry_core.specs.Journal.{segment_literals, packets, shared, is_closed}
 use Rattle.entry_core.specs.Attempts.{Attempt, attempts, attempt, is_open}
 use Rattle.entry_core.specs.Settled.{settled}
 use Rattle.entry_core.specs.Schedule.{IsNext}
@@ -33,7 +35,8 @@ IsClient rules caller = (1 ≤ caller) × (caller ≤ rules.clients)
 abbrev pub IsWorker : Rules → ℕ → Type 0
 IsWorker rules caller = (rules.clients < caller) × (caller ≤ rules.clients + rules.workers)
 
-pub record MayAdd (rules : Rules) (before : List Entry) (caller : ℕ) (segment : Segment) : Type 0 where
+pub record MayAdd (rules : Rules) (before : List Entry) (caller : ℕ)
+    (segment : Segment) : Type 0 where
   pub client : IsClient rules caller
   pub not_closed : is_closed before ≡ false
   pub few_jobs : jobs before < 1048576
@@ -55,8 +58,9 @@ pub record MayBegin (rules : Rules) (before : List Entry) (caller job number : �
   pub next_job : IsNext rules before job
   pub next_number : number ≡ length (attempts before) + 1
 
--- The steps of a packet prove its last clause, which is short and no tautology, from the input clauses up to its tag and the packets before.
--- No tag is above that of the last step, so that every hint has at most this tag too.
+-- The steps of a packet prove its last clause, which is short and no tautology, from the input
+-- clauses up to its tag and the packets before. No tag is above that of the last step, so that
+-- every hint has at most this tag too.
 pub record IsShareable (before : List Entry) (packet : List Step) : Type 0 where
   pub front : List Step
   pub last : Step
@@ -68,7 +72,8 @@ pub record IsShareable (before : List Entry) (packet : List Step) : Type 0 where
   pub tags : All (λ step. step.tag ≤ last.tag) packet
   pub within : greatest_of last.clause ≤ greatest_of_all (clauses_of before last.tag)
 
-pub record MayShare (rules : Rules) (before : List Entry) (caller : ℕ) (packet : List Step) : Type 0 where
+pub record MayShare (rules : Rules) (before : List Entry) (caller : ℕ)
+    (packet : List Step) : Type 0 where
   pub worker : IsWorker rules caller
   pub few : length (packets before) < 4194304
   pub shareable : IsShareable before packet
@@ -79,7 +84,8 @@ pub record IsRunning (before : List Entry) (caller number : ℕ) (begun : Attemp
   pub own : begun.worker ≡ caller
   pub open_yet : IsTrue (is_open before begun)
 
-pub record MaySpend (rules : Rules) (before : List Entry) (caller number : ℕ) (learnt : List (List ℕ)) : Type 0 where
+pub record MaySpend (rules : Rules) (before : List Entry) (caller number : ℕ)
+    (learnt : List (List ℕ)) : Type 0 where
   pub begun : Attempt
   pub running : IsRunning before caller number begun
   pub unsettled : settled rules before begun.job ≡ None
@@ -90,7 +96,8 @@ pub record MayDrop (rules : Rules) (before : List Entry) (caller number : ℕ) :
   pub running : IsRunning before caller number begun
   pub settled_job : IsSome (settled rules before begun.job)
 
-pub record MayDecide (rules : Rules) (before : List Entry) (caller number : ℕ) (given : Answer) : Type 0 where
+pub record MayDecide (rules : Rules) (before : List Entry) (caller number : ℕ)
+    (given : Answer) : Type 0 where
   pub begun : Attempt
   pub running : IsRunning before caller number begun
   pub unsettled : settled rules before begun.job ≡ None
@@ -107,15 +114,19 @@ IsAllowed rules before caller (event.Added segment) = MayAdd rules before caller
 IsAllowed rules before caller event.Closed = MayClose rules before caller
 IsAllowed rules before caller (event.Cancelled job) = MayCancel rules before caller job
 IsAllowed rules before caller (event.Began job number) = MayBegin rules before caller job number
-IsAllowed rules before caller (event.Shared packet) = MayShare rules before caller (arc_value packet)
-IsAllowed rules before caller (event.Spent number learnt) = MaySpend rules before caller number (arc_value learnt)
+IsAllowed rules before caller (event.Shared packet) =
+    MayShare rules before caller (arc_value packet)
+IsAllowed rules before caller (event.Spent number learnt) =
+    MaySpend rules before caller number (arc_value learnt)
 IsAllowed rules before caller (event.Dropped number) = MayDrop rules before caller number
-IsAllowed rules before caller (event.Decided number given) = MayDecide rules before caller number (arc_value given)
+IsAllowed rules before caller (event.Decided number given) =
+    MayDecide rules before caller number (arc_value given)
 IsAllowed rules before caller (event.Starved number) = MayStarve rules before caller number
 
 abbrev pub IsLegalAfter : Rules → List Entry → List Entry → Type 0
 IsLegalAfter rules before [] = Unit {0}
-IsLegalAfter rules before (entry ∷ rest) = IsAllowed rules before entry.caller entry.event × IsLegalAfter rules (before ++ entry ∷ []) rest
+IsLegalAfter rules before (entry ∷ rest) =
+    IsAllowed rules before entry.caller entry.event × IsLegalAfter rules (before ++ entry ∷ []) rest
 
 -- A journal is legal where each entry is allowed after the entries before it.
 abbrev pub IsLegal : Rules → List Entry → Type 0

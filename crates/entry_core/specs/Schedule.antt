@@ -16,7 +16,8 @@ pub record IsWaiting (rules : Rules) (journal : List Entry) (job : ℕ) : Type 0
 -- fewer open attempts, and with as many the smaller number
 abbrev pub GoesBefore : List Entry → ℕ → ℕ → Type 0
 GoesBefore journal job other =
-    (open_attempts journal job < open_attempts journal other) ⊎ ((open_attempts journal job ≡ open_attempts journal other) × (job ≤ other))
+    (open_attempts journal job < open_attempts journal other)
+    ⊎ ((open_attempts journal job ≡ open_attempts journal other) × (job ≤ other))
 
 -- the job to take: the waiting one that goes before all others
 pub record IsNext (rules : Rules) (journal : List Entry) (job : ℕ) : Type 0 where

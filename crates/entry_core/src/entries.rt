@@ -11,7 +11,8 @@ pub struct Entry {
     pub event: Event,
 }
 
-/// What happened. Jobs and attempts are numbered from 1, in the order of their `Added` and `Began` entries.
+/// What happened. Jobs and attempts are numbered from 1, in the order of their `Added` and `Began`
+/// entries.
 #[derive(Debug, Drop)]
 pub enum Event {
     /// A client added a job.

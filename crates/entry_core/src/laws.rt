@@ -25,12 +25,14 @@ pub fn longer_journal_keeps()
     ensures { LongerJournalKeeps }
 {}
 
-/// In a legal journal each verdict has its cause: a right answer, a cancel, an earlier model, spent budgets or want of memory.
+/// In a legal journal each verdict has its cause: a right answer, a cancel, an earlier model, spent
+/// budgets or want of memory.
 pub fn verdicts_have_causes()
     ensures { VerdictsHaveCauses }
 {}
 
-/// A job isn't given up with a budget that is greater than the number of clauses over its variables.
+/// A job isn't given up with a budget that is greater than the number of clauses over its
+/// variables.
 pub fn large_budgets_answer()
     ensures { LargeBudgetsAnswer }
 {}

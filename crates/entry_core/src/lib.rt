@@ -1,9 +1,10 @@
-//! The journal of the concurrent solver: which entries there are, what they say, and when they are legal.
+//! The journal of the concurrent solver: which entries there are, what they say, and when they are
+//! legal.
 //!
-//! The layers above use the definitions in `specs/` (jobs and their clauses, the shared database, attempts,
-//! who is settled and how, the job to take, legal journals) and the laws that make a journal worth keeping:
-//! what it says stays true, and each verdict has its cause. This crate knows no board, no lock, no thread
-//! and no solver.
+//! The layers above use the definitions in `specs/` (jobs and their clauses, the shared database,
+//! attempts, who is settled and how, the job to take, legal journals) and the laws that make a
+//! journal worth keeping: what it says stays true, and each verdict has its cause. This crate knows
+//! no board, no lock, no thread and no solver.
 #![tactic(auto)]
 
 mod answers;

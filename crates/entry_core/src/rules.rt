@@ -1,7 +1,7 @@
 //! The rules of a journal.
 
-/// The rules of a journal, which never change. Callers 1 to `clients` are clients, and the next `workers`
-/// are workers.
+/// The rules of a journal, which never change. Callers 1 to `clients` are clients, and the next
+/// `workers` are workers.
 #[derive(Clone, Copy, Debug, PartialEq, Eq)]
 pub struct Rules {
     /// 1 to 16.

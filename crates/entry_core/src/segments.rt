@@ -54,8 +54,8 @@ impl Clauses {
     }
 }
 
-/// The clauses that a client adds, and the cube of the job that they add. The job's clauses are these and
-/// those of every segment before.
+/// The clauses that a client adds, and the cube of the job that they add. The job's clauses are
+/// these and those of every segment before.
 #[derive(Debug, Drop)]
 pub struct Segment {
     pub clauses: Clauses,

@@ -8,7 +8,8 @@ pub record Checked : Type 0 where
   pub inputs : List Known
   pub steps : List Known
 
--- The clauses that a checker knows. It has no shared packets, so that a `Shared` hint names nothing.
+-- The clauses that a checker knows. It has no shared packets, so that a `Shared` hint names
+-- nothing.
 abbrev pub known_to : List Known → List Known → Ref → Option Known
 known_to inputs steps = known inputs [] steps
 

@@ -18,10 +18,12 @@ abbrev pub AgreeUpTo : ℕ → List Known → List Known → Type 0
 AgreeUpTo bound all inputs = (number : ℕ) (one : Known)
     → item_at all number ≡ Some one → one.tag ≤ bound → item_at inputs number ≡ Some one
 
--- The table of known clauses: what a reference names among the input clauses, the steps of the shared packets, and the own steps.
+-- The table of known clauses: what a reference names among the input clauses, the steps of the
+-- shared packets, and the own steps.
 abbrev pub known : List Known → List (List Known) → List Known → Ref → Option Known
 known inputs packets own (Input number) = item_at inputs number
-known inputs packets own (Shared packet step) = option_and_then (λ steps. item_at steps step) (item_at packets packet)
+known inputs packets own (Shared packet step) =
+    option_and_then (λ steps. item_at steps step) (item_at packets packet)
 known inputs packets own (Own number) = item_at own number
 
 -- the literals of what a reference names, none where it names nothing

@@ -1,5 +1,6 @@
 -- The marks of a check: which literals hold while hints are propagated, by their codes.
-use Rattle.std.specs.Prelude.{◌≡◌, ◌≢◌, ℕ, ◌+◌, ◌*◌, ◌/◌, ◌<◌, ◌↔◌, Bool, true, false, IsTrue, List, slice_index_or, Contains}
+use Rattle.std.specs.Prelude.{◌≡◌, ◌≢◌, ℕ, ◌+◌, ◌*◌, ◌/◌, ◌<◌, ◌↔◌, Bool, true, false, IsTrue, List}
+use Rattle.std.specs.Prelude.{slice_index_or, Contains}
 use Rattle.sat_base.specs.Lit.{opposite}
 use Rattle.trace_core.specs.declared.marks.Mark.{Mark}
 use Rattle.trace_core.specs.declared.marks.Mark.TheVariants.{Free, Held, Uncovered}
@@ -41,10 +42,13 @@ abbrev pub IsFound : List Mark → List ℕ → Found → Type 0
 IsFound marks clause Nothing = (lit : ℕ) → Contains clause lit → IsTrue (holds marks (opposite lit))
 IsFound marks clause (One lit) = Contains clause lit × (holds marks (opposite lit) ≡ false)
     × ((other : ℕ) → Contains clause other → other ≢ lit → IsTrue (holds marks (opposite other)))
-IsFound marks clause More = (lit : ℕ) × (other : ℕ) × (other ≢ lit) × Contains clause lit × Contains clause other
+IsFound marks clause More =
+    (lit : ℕ) × (other : ℕ) × (other ≢ lit) × Contains clause lit × Contains clause other
     × (holds marks (opposite lit) ≡ false) × (holds marks (opposite other) ≡ false)
 
 -- these literals have been shown: the negation of none of them is uncovered any more
 pub record CoveredBy (before : List Mark) (shown : List ℕ) (after : List Mark) : Type 0 where
-  pub still : (lit : ℕ) → IsTrue (is_uncovered after lit) → IsTrue (is_uncovered before lit) × ¬ Contains shown (opposite lit)
-  pub covered : (lit : ℕ) → IsTrue (is_uncovered before lit) → is_uncovered after lit ≡ false → Contains shown (opposite lit)
+  pub still : (lit : ℕ) → IsTrue (is_uncovered after lit)
+      → IsTrue (is_uncovered before lit) × ¬ Contains shown (opposite lit)
+  pub covered : (lit : ℕ) → IsTrue (is_uncovered before lit) → is_uncovered after lit ≡ false
+      → Contains shown (opposite lit)

@@ -1,5 +1,6 @@
--- Derivation of a clause by reverse unit propagation over hints, as in LRAT additions with positive hints, in a strict form:
--- each hint but the last has to add a literal, and each literal of the clause has to stand in a hinted clause.
+-- Derivation of a clause by reverse unit propagation over hints, as in LRAT additions with positive
+-- hints, in a strict form: each hint but the last has to add a literal, and each literal of the
+-- clause has to stand in a hinted clause.
 use Rattle.std.specs.Prelude.{◌≡◌, ◌≢◌, ℕ, ◌⊎◌, List, [], ◌∷◌, ◌++◌, map, length, Contains}
 use Rattle.sat_base.specs.Lit.{opposite, IsTautology}
 
@@ -7,18 +8,22 @@ use Rattle.sat_base.specs.Lit.{opposite, IsTautology}
 abbrev pub IsFalsified : List ℕ → List ℕ → Type 0
 IsFalsified set clause = (lit : ℕ) → Contains clause lit → Contains set (opposite lit)
 
--- Under a set of literals that hold, a clause is unit where exactly one of its literals isn't false, and that one doesn't hold yet.
+-- Under a set of literals that hold, a clause is unit where exactly one of its literals isn't
+-- false, and that one doesn't hold yet.
 pub record IsUnit (set clause : List ℕ) (lit : ℕ) : Type 0 where
   pub stands : Contains clause lit
   pub not_false : ¬ Contains set (opposite lit)
   pub not_true : ¬ Contains set lit
-  pub others_false : (other : ℕ) → Contains clause other → other ≢ lit → Contains set (opposite other)
+  pub others_false : (other : ℕ) → Contains clause other → other ≢ lit
+      → Contains set (opposite other)
 
--- Unit propagation in the order of the hints: each but the last is unit and adds its literal, and the last one is falsified.
+-- Unit propagation in the order of the hints: each but the last is unit and adds its literal, and
+-- the last one is falsified.
 abbrev pub ReachesConflict : List ℕ → List (List ℕ) → Type 0
 ReachesConflict set [] = ⊥
 ReachesConflict set (hint ∷ []) = IsFalsified set hint
-ReachesConflict set (hint ∷ next ∷ hints) = (lit : ℕ) × IsUnit set hint lit × ReachesConflict (set ++ lit ∷ []) (next ∷ hints)
+ReachesConflict set (hint ∷ next ∷ hints) =
+    (lit : ℕ) × IsUnit set hint lit × ReachesConflict (set ++ lit ∷ []) (next ∷ hints)
 
 -- one of the clauses has the literal
 abbrev pub StandsInOneOf : List (List ℕ) → ℕ → Type 0

@@ -1,5 +1,6 @@
 -- Ok steps and traces.
-use Rattle.std.specs.Prelude.{◌≡◌, ℕ, ◌↔◌, max, Option, IsSome, List, [], ◌∷◌, ◌++◌, map, All, Contains}
+use Rattle.std.specs.Prelude.{◌≡◌, ℕ, ◌↔◌, max, Option, IsSome, List, [], ◌∷◌, ◌++◌, map, All}
+use Rattle.std.specs.Prelude.{Contains}
 use Rattle.sat_base.specs.Lit.{opposite}
 use Rattle.sat_base.specs.declared.origins.Ref.{Ref}
 use Rattle.trace_core.specs.Known.{Known, known, clause_of, tag_of}
@@ -11,8 +12,8 @@ abbrev pub greatest : List ℕ → ℕ
 greatest [] = 0
 greatest (number ∷ numbers) = max number (greatest numbers)
 
--- A step is ok over a table of known clauses where each of its hints names one, these prove its clause, and its tag is exact:
--- the greatest tag among them, 0 without hints.
+-- A step is ok over a table of known clauses where each of its hints names one, these prove its
+-- clause, and its tag is exact: the greatest tag among them, 0 without hints.
 pub record IsOkStep (table : Ref → Option Known) (step : Step) : Type 0 where
   pub all_known : All (λ hint. IsSome (table hint)) step.hints
   pub proved : IsProved (map (λ hint. clause_of (table hint)) step.hints) step.clause
@@ -25,14 +26,19 @@ known_of step = record { clause = step.clause; tag = step.tag }
 -- Each step is ok over the inputs, the packets, the own steps so far, and the steps before it.
 abbrev pub AreOkSteps : List Known → List (List Known) → List Known → List Step → Type 0
 AreOkSteps inputs packets own [] = Unit {0}
-AreOkSteps inputs packets own (step ∷ steps) = IsOkStep (known inputs packets own) step × AreOkSteps inputs packets (own ++ known_of step ∷ []) steps
+AreOkSteps inputs packets own (step ∷ steps) =
+    IsOkStep (known inputs packets own) step
+    × AreOkSteps inputs packets (own ++ known_of step ∷ []) steps
 
 -- Each packet's steps are ok over the inputs, the packets before it, and its own earlier steps.
 abbrev pub AreOkPackets : List Known → List (List Known) → List (List Step) → Type 0
 AreOkPackets inputs before [] = Unit {0}
-AreOkPackets inputs before (packet ∷ packets) = AreOkSteps inputs before [] packet × AreOkPackets inputs (before ++ map known_of packet ∷ []) packets
+AreOkPackets inputs before (packet ∷ packets) =
+    AreOkSteps inputs before [] packet
+    × AreOkPackets inputs (before ++ map known_of packet ∷ []) packets
 
--- A trace: the evidence that the inputs entail the clause of a part's negated literals. No hint names a shared packet.
+-- A trace: the evidence that the inputs entail the clause of a part's negated literals. No hint
+-- names a shared packet.
 pub record IsTrace (inputs : List Known) (part : List ℕ) (steps : List Step) : Type 0 where
   pub front : List Step
   pub last : Step

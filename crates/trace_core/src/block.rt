@@ -1,6 +1,7 @@
 //! Known clauses in one block of memory.
 
-ghost use Rattle.std.specs.Prelude.{◌≡◌, ◌^◌, ◌<◌, [], ◌∷◌, ◌++◌, length, OnOk, OnErr, MatchOption, Some, None};
+ghost use Rattle.std.specs.Prelude.{◌≡◌, ◌^◌, ◌<◌, [], ◌∷◌, ◌++◌, length, OnOk, OnErr, MatchOption};
+ghost use Rattle.std.specs.Prelude.{Some, None};
 ghost use Rattle.trace_core.specs.Known.{item_at};
 
 use sat_base::Lit;
@@ -57,7 +58,8 @@ impl KnownClauses {
     /// Adds a clause with its tag. Where memory is refused all stays as it was.
     pub(crate) fn push(&mut self, lits: &[Lit], tag: u32) -> Result<(), AllocError>
         requires { length lits.now < 2 ^ 32 }
-        ensures ok { OnOk result (self.new ≡ self.old ++ record { clause = lits.now; tag = tag } ∷ []) }
+        ensures ok { OnOk result
+            (self.new ≡ self.old ++ record { clause = lits.now; tag = tag } ∷ []) }
         ensures err { OnErr result (self.new ≡ self.old) }
     {
         let place = Place {
@@ -72,7 +74,9 @@ impl KnownClauses {
 
     /// The clause of that number, counted from 1, if there is one.
     pub(crate) fn get(&self, number: u64) -> Option<KnownClause<'_>>
-        ensures { MatchOption result (item_at self.now number ≡ None) (λ found. item_at self.now number ≡ Some (record { clause = found.lits.now; tag = found.tag })) }
+        ensures { MatchOption result (item_at self.now number ≡ None)
+            (λ found. item_at self.now number
+            ≡ Some (record { clause = found.lits.now; tag = found.tag })) }
     {
         if number == 0 || number > self.places.len() as u64 {
             return None;

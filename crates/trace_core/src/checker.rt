@@ -1,6 +1,7 @@
 //! The checker of steps.
 
-ghost use Rattle.std.specs.Prelude.{◌≡◌, ◌<◌, ◌↔◌, [], ◌∷◌, ◌++◌, false, length, IfOk, OnOk, OnErr, IsTrue};
+ghost use Rattle.std.specs.Prelude.{◌≡◌, ◌<◌, ◌↔◌, [], ◌∷◌, ◌++◌, false, length, IfOk, OnOk, OnErr};
+ghost use Rattle.std.specs.Prelude.{IsTrue};
 
 use crate::Step;
 use crate::block::KnownClauses;
@@ -15,8 +16,9 @@ use std::marker::Model;
 /// A checker of the steps of one derivation: its input clauses, and the steps that it has accepted.
 /// Contracts see these two lists.
 ///
-/// A check takes time in proportion to the literals of the clause and of the hinted clauses. A known
-/// clause costs 16 bytes and 4 more a literal; besides, each literal up to the greatest one costs a byte.
+/// A check takes time in proportion to the literals of the clause and of the hinted clauses. A
+/// known clause costs 16 bytes and 4 more a literal; besides, each literal up to the greatest one
+/// costs a byte.
 #[derive(Debug, Drop)]
 pub struct Checker {
     database: Database,
@@ -31,9 +33,13 @@ impl Model for Checker {
 
     ghost use Rattle.trace_core.specs.Ready.{IsReady};
 
-    ghost view = { λ checker. record { inputs = checker.database.inputs; steps = checker.database.steps } };
+    ghost view = { λ checker. record {
+      inputs = checker.database.inputs;
+      steps = checker.database.steps;
+    } };
 
-    ghost invariant = { λ checker. IsReady checker.marks.items checker.set.items checker.database.inputs checker.database.steps };
+    ghost invariant = { λ checker. IsReady checker.marks.items checker.set.items
+        checker.database.inputs checker.database.steps };
 }
 
 impl Checker {
@@ -55,12 +61,13 @@ impl Checker {
         }
     }
 
-    /// Adds an input clause and its tag, before the first step. Where memory is refused the checker stays as
-    /// it was.
+    /// Adds an input clause and its tag, before the first step. Where memory is refused the checker
+    /// stays as it was.
     pub fn add_input(&mut self, clause: &Clause, tag: u32) -> Result<(), AllocError>
         requires no_steps { self.old.steps ≡ [] }
         requires room { length self.old.inputs < 16777216 }
-        ensures added { OnOk result (self.new.inputs ≡ self.old.inputs ++ record { clause = clause.now; tag = tag } ∷ []) }
+        ensures added { OnOk result
+            (self.new.inputs ≡ self.old.inputs ++ record { clause = clause.now; tag = tag } ∷ []) }
         ensures steps { self.new.steps ≡ self.old.steps }
         ensures err { OnErr result (self.new ≡ self.old) }
     {
@@ -70,14 +77,16 @@ impl Checker {
         Ok(())
     }
 
-    /// Checks a step: true exactly where it is ok over the inputs and the steps that were added, with
-    /// exact tag. Then the step is added, and can be named by `Own` and its number, counted from 1. A
-    /// step that is not ok changes nothing, and neither does a refusal of memory. A `Shared` hint names
-    /// nothing here.
+    /// Checks a step: true exactly where it is ok over the inputs and the steps that were added,
+    /// with exact tag. Then the step is added, and can be named by `Own` and its number, counted
+    /// from 1. A step that is not ok changes nothing, and neither does a refusal of memory. A
+    /// `Shared` hint names nothing here.
     pub fn check(&mut self, step: &Step) -> Result<bool, AllocError>
-        ensures exact { IfOk result (λ ok. IsTrue ok ↔ IsOkStep (known self.old.inputs [] self.old.steps) step.now) }
+        ensures exact { IfOk result
+            (λ ok. IsTrue ok ↔ IsOkStep (known self.old.inputs [] self.old.steps) step.now) }
         ensures inputs { self.new.inputs ≡ self.old.inputs }
-        ensures added { IfOk result (λ ok. IsTrue ok → self.new.steps ≡ self.old.steps ++ known_of step.now ∷ []) }
+        ensures added { IfOk result
+            (λ ok. IsTrue ok → self.new.steps ≡ self.old.steps ++ known_of step.now ∷ []) }
         ensures refused { IfOk result (λ ok. ok ≡ false → self.new ≡ self.old) }
         ensures err { OnErr result (self.new ≡ self.old) }
     {

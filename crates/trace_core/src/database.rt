@@ -18,7 +18,9 @@ pub(crate) struct Database {
 impl Database {
     /// The clause that a reference names, if it names one here.
     pub(crate) fn look(&self, name: Ref) -> Option<KnownClause<'_>>
-        ensures { MatchOption result (known_to self.now.inputs self.now.steps name ≡ None) (λ found. known_to self.now.inputs self.now.steps name ≡ Some (record { clause = found.lits.now; tag = found.tag })) }
+        ensures { MatchOption result (known_to self.now.inputs self.now.steps name ≡ None)
+            (λ found. known_to self.now.inputs self.now.steps name
+            ≡ Some (record { clause = found.lits.now; tag = found.tag })) }
     {
         match name {
             Ref::Input(number) => self.inputs.get(u64::from(number)),
@@ -37,12 +39,18 @@ impl Database {
         }
     }
 
-    /// The greatest tag among the clauses that the hints name, 0 without hints. `None` exactly where a
-    /// hint names nothing.
+    /// The greatest tag among the clauses that the hints name, 0 without hints. `None` exactly
+    /// where a hint names nothing.
     pub(crate) fn greatest_tag(&self, hints: &[Ref]) -> Option<u32>
-        ensures known { IsSome result → All (λ hint. IsSome (known_to self.now.inputs self.now.steps hint)) hints.now }
-        ensures unknown { All (λ hint. IsSome (known_to self.now.inputs self.now.steps hint)) hints.now → IsSome result }
-        ensures tag { MatchOption result (result ≡ None) (λ tag. tag ≡ greatest (map (λ hint. tag_of (known_to self.now.inputs self.now.steps hint)) hints.now)) }
+        ensures known { IsSome result
+            → All (λ hint. IsSome (known_to self.now.inputs self.now.steps hint)) hints.now }
+        ensures unknown { All
+            (λ hint. IsSome (known_to self.now.inputs self.now.steps hint)) hints.now
+            → IsSome result }
+        ensures tag { MatchOption result (result ≡ None)
+            (λ tag. tag
+            ≡ greatest
+            (map (λ hint. tag_of (known_to self.now.inputs self.now.steps hint)) hints.now)) }
     {
         let mut most = 0;
         for hint in hints {

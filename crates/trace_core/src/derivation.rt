@@ -6,7 +6,8 @@ use sat_base::{Clause, Ref};
 use std::alloc::{AllocError, Global};
 use std::marker::Model;
 
-/// The hints of a step, in the order in which a checker takes them. Contracts see them as that list.
+/// The hints of a step, in the order in which a checker takes them. Contracts see them as that
+/// list.
 #[derive(Debug, Drop)]
 pub struct Hints {
     refs: Vec<Ref>,
@@ -53,8 +54,8 @@ impl Hints {
     }
 }
 
-/// A step of a derivation: a clause, the hints that prove it, and the greatest tag among the clauses that
-/// these name, 0 without hints.
+/// A step of a derivation: a clause, the hints that prove it, and the greatest tag among the
+/// clauses that these name, 0 without hints.
 #[derive(Debug, Drop)]
 pub struct Step {
     pub clause: Clause,
@@ -124,8 +125,8 @@ impl Steps {
     }
 }
 
-/// A packet of the shared database: steps that prove its last clause, never none. In a packet `Own(i)` is
-/// its i-th step. Contracts see it as the list of its steps.
+/// A packet of the shared database: steps that prove its last clause, never none. In a packet
+/// `Own(i)` is its i-th step. Contracts see it as the list of its steps.
 #[derive(Debug, Drop)]
 pub struct Packet {
     pub steps: Steps,

@@ -1,6 +1,7 @@
 //! Laws over the definitions alone, each as the contract of a function that does nothing.
 
-ghost use Rattle.trace_core.specs.Law.{OkStepStaysOk, ProofIsSound, StepIsSound, TautologyHolds, TraceIsSound, TagBoundsInputs};
+ghost use Rattle.trace_core.specs.Law.{OkStepStaysOk, ProofIsSound, StepIsSound, TautologyHolds};
+ghost use Rattle.trace_core.specs.Law.{TraceIsSound, TagBoundsInputs};
 
 /// Hinted clauses that prove a clause entail it.
 pub fn proof_is_sound()

@@ -1,9 +1,9 @@
 //! Derivations of clauses and their exact check: what evidence is.
 //!
-//! A step is a clause with hints, in the shape of LRAT additions with positive hints. The layers above use
-//! the definitions in `specs/` (when a step is ok over known clauses, and what a trace is), the contract of
-//! `Checker::check`, and the laws that ok steps and traces prove what they say. This crate knows no text,
-//! no solver and no shared database.
+//! A step is a clause with hints, in the shape of LRAT additions with positive hints. The layers
+//! above use the definitions in `specs/` (when a step is ok over known clauses, and what a trace
+//! is), the contract of `Checker::check`, and the laws that ok steps and traces prove what they
+//! say. This crate knows no text, no solver and no shared database.
 #![tactic(auto)]
 
 mod block;

@@ -7,7 +7,8 @@ ghost use Rattle.trace_core.specs.declared.marks.Mark.{Mark};
 
 use sat_base::Lit;
 
-/// The mark of a literal. One byte, and the one look-up that the scan of a hint needs for each literal.
+/// The mark of a literal. One byte, and the one look-up that the scan of a hint needs for each
+/// literal.
 #[derive(Clone, Copy, Debug)]
 pub(crate) enum Mark {
     /// It doesn't hold.
@@ -28,7 +29,8 @@ pub(crate) enum Found {
 
 // What was found, with one more literal that isn't false.
 fn with(found: Found, lit: Lit) -> Found
-    ensures { (marks : List Mark) (clause : List ℕ) → IsFound marks clause found → holds marks (opposite lit) ≡ false → IsFound marks (clause ++ lit ∷ []) result }
+    ensures { (marks : List Mark) (clause : List ℕ) → IsFound marks clause found
+        → holds marks (opposite lit) ≡ false → IsFound marks (clause ++ lit ∷ []) result }
 {
     match found {
         Found::Nothing => Found::One(lit),
@@ -43,8 +45,8 @@ fn with(found: Found, lit: Lit) -> Found
     }
 }
 
-/// Looks at each literal of a hinted clause once: tells which aren't false, and marks those literals of
-/// the derived clause that it shows.
+/// Looks at each literal of a hinted clause once: tells which aren't false, and marks those
+/// literals of the derived clause that it shows.
 pub(crate) fn scan(marks: &mut [Mark], hint: &[Lit]) -> Found
     requires { HasRoom (length marks.old) hint.now }
     ensures found { IsFound marks.old hint.now result }

@@ -13,8 +13,8 @@ use crate::unit_propagation::derives;
 use sat_base::Lit;
 use std::alloc::AllocError;
 
-/// Whether the step is ok over the known clauses, with exact tag. Nothing holds before and after the call,
-/// also where it wants memory.
+/// Whether the step is ok over the known clauses, with exact tag. Nothing holds before and after
+/// the call, also where it wants memory.
 pub(crate) fn is_ok(
     marks: &mut [Mark],
     set: &mut Vec<Lit>,
@@ -26,7 +26,8 @@ pub(crate) fn is_ok(
     requires steps_room { HaveRoomFor (length marks.old) database.now.steps }
     requires free { AreFree marks.old }
     requires empty { set.old.items ≡ [] }
-    ensures exact { IfOk result (λ ok. IsTrue ok ↔ IsOkStep (known_to database.now.inputs database.now.steps) step.now) }
+    ensures exact { IfOk result
+        (λ ok. IsTrue ok ↔ IsOkStep (known_to database.now.inputs database.now.steps) step.now) }
     ensures free { AreFree marks.new }
     ensures empty { set.new.items ≡ [] }
 {

@@ -1,6 +1,7 @@
 //! Unit propagation over hints, on marks and the list of literals that hold.
 
-ghost use Rattle.std.specs.Prelude.{◌≡◌, ℕ, ◌<◌, ◌↔◌, true, false, List, [], ◌∷◌, ◌++◌, length, map, Contains, IsTrue, IfOk, Ok, MatchBool};
+ghost use Rattle.std.specs.Prelude.{◌≡◌, ℕ, ◌<◌, ◌↔◌, true, false, List, [], ◌∷◌, ◌++◌, length};
+ghost use Rattle.std.specs.Prelude.{map, Contains, IsTrue, IfOk, Ok, MatchBool};
 ghost use Rattle.std.specs.List.{concat};
 ghost use Rattle.sat_base.specs.Lit.{opposite};
 ghost use Rattle.trace_core.specs.Propagation.{Derive, IsUnit, ReachesConflict};
@@ -17,7 +18,10 @@ fn add(marks: &mut [Mark], set: &mut Vec<Lit>, lit: Lit) -> Result<bool, AllocEr
     requires within { lit < length marks.old }
     requires agree { Agree marks.old set.old.items }
     ensures agree { Agree marks.new set.new.items }
-    ensures added { IfOk result (λ added. MatchBool added ((holds marks.old lit ≡ false) × (set.new.items ≡ set.old.items ++ lit ∷ [])) (IsTrue (holds marks.old lit))) }
+    ensures added { IfOk result
+        (λ added. MatchBool added
+        ((holds marks.old lit ≡ false) × (set.new.items ≡ set.old.items ++ lit ∷ []))
+        (IsTrue (holds marks.old lit))) }
     ensures uncovered { (other : ℕ) → is_uncovered marks.new other ≡ is_uncovered marks.old other }
 {
     let code = lit.code() as usize;
@@ -34,7 +38,11 @@ fn advance(marks: &mut [Mark], set: &mut Vec<Lit>, hint: &[Lit]) -> Result<bool,
     requires room { HasRoom (length marks.old) hint.now }
     requires agree { Agree marks.old set.old.items }
     ensures agree { Agree marks.new set.new.items }
-    ensures unit { IfOk result (λ added. MatchBool added ((lit : ℕ) × IsUnit set.old.items hint.now lit × (set.new.items ≡ set.old.items ++ lit ∷ [])) ((lit : ℕ) → ¬ IsUnit set.old.items hint.now lit)) }
+    ensures unit { IfOk result
+        (λ added. MatchBool added
+        ((lit : ℕ) × IsUnit set.old.items hint.now lit
+        × (set.new.items ≡ set.old.items ++ lit ∷ [])) ((lit : ℕ)
+        → ¬ IsUnit set.old.items hint.now lit)) }
     ensures covered { IfOk result (λ added. CoveredBy marks.old hint.now marks.new) }
 {
     match scan(marks, hint) {
@@ -51,11 +59,17 @@ fn propagate(
     database: &Database,
     hints: &[Ref],
 ) -> Result<bool, AllocError>
-    requires room { HaveRoom (length marks.old) (hinted database.now.inputs database.now.steps hints.now) }
+    requires room { HaveRoom (length marks.old)
+        (hinted database.now.inputs database.now.steps hints.now) }
     requires agree { Agree marks.old set.old.items }
     ensures agree { Agree marks.new set.new.items }
-    ensures conflict { IfOk result (λ conflict. IsTrue conflict ↔ ReachesConflict set.old.items (hinted database.now.inputs database.now.steps hints.now)) }
-    ensures covered { IfOk result (λ conflict. IsTrue conflict → CoveredBy marks.old (concat (hinted database.now.inputs database.now.steps hints.now)) marks.new) }
+    ensures conflict { IfOk result
+        (λ conflict. IsTrue conflict
+        ↔ ReachesConflict set.old.items (hinted database.now.inputs database.now.steps hints.now)) }
+    ensures covered { IfOk result
+        (λ conflict. IsTrue conflict
+        → CoveredBy marks.old
+        (concat (hinted database.now.inputs database.now.steps hints.now)) marks.new) }
 {
     if hints.is_empty() {
         return Ok(false);
@@ -79,7 +93,9 @@ fn assume_false(marks: &mut [Mark], set: &mut Vec<Lit>, clause: &[Lit]) -> Resul
     requires empty { set.old.items ≡ [] }
     ensures agree { Agree marks.new set.new.items }
     ensures set { IfOk result (λ _. set.new.items ≡ map opposite clause.now) }
-    ensures uncovered { IfOk result (λ _. (lit : ℕ) → IsTrue (is_uncovered marks.new lit) ↔ Contains clause.now (opposite lit)) }
+    ensures uncovered { IfOk result
+        (λ _. (lit : ℕ)
+        → IsTrue (is_uncovered marks.new lit) ↔ Contains clause.now (opposite lit)) }
 {
     for lit in clause {
         let negation = lit.negated();
@@ -92,7 +108,8 @@ fn assume_false(marks: &mut [Mark], set: &mut Vec<Lit>, clause: &[Lit]) -> Resul
 // Whether no literal of the clause is left that no hint has shown.
 fn is_covered(marks: &[Mark], clause: &[Lit]) -> bool
     requires { HasRoom (length marks.now) clause.now }
-    ensures { IsTrue result ↔ ((lit : ℕ) → Contains clause.now lit → is_uncovered marks.now (opposite lit) ≡ false) }
+    ensures { IsTrue result
+        ↔ ((lit : ℕ) → Contains clause.now lit → is_uncovered marks.now (opposite lit) ≡ false) }
 {
     for lit in clause {
         if let Mark::Uncovered = marks[lit.negated().code() as usize] {
@@ -102,7 +119,8 @@ fn is_covered(marks: &[Mark], clause: &[Lit]) -> bool
     true
 }
 
-// Whether the negations of the clause's literals lead to a conflict over the hints, which show each of them.
+// Whether the negations of the clause's literals lead to a conflict over the hints, which show each
+// of them.
 fn follow(
     marks: &mut [Mark],
     set: &mut Vec<Lit>,
@@ -111,7 +129,8 @@ fn follow(
     hints: &[Ref],
 ) -> Result<bool, AllocError>
     requires clause_room { HasRoom (length marks.old) clause.now }
-    requires room { HaveRoom (length marks.old) (hinted database.now.inputs database.now.steps hints.now) }
+    requires room { HaveRoom (length marks.old)
+        (hinted database.now.inputs database.now.steps hints.now) }
     requires free { AreFree marks.old }
     requires empty { set.old.items ≡ [] }
     ensures agree { Agree marks.new set.new.items }
@@ -137,8 +156,8 @@ fn clear(marks: &mut [Mark], set: &mut Vec<Lit>)
     set.clear();
 }
 
-/// Whether the hints derive the clause, which is no tautology, by reverse unit propagation. Nothing holds
-/// before and after the call, also where it wants memory.
+/// Whether the hints derive the clause, which is no tautology, by reverse unit propagation. Nothing
+/// holds before and after the call, also where it wants memory.
 pub(crate) fn derives(
     marks: &mut [Mark],
     set: &mut Vec<Lit>,
@@ -147,7 +166,8 @@ pub(crate) fn derives(
     hints: &[Ref],
 ) -> Result<bool, AllocError>
     requires clause_room { HasRoom (length marks.old) clause.now }
-    requires room { HaveRoom (length marks.old) (hinted database.now.inputs database.now.steps hints.now) }
+    requires room { HaveRoom (length marks.old)
+        (hinted database.now.inputs database.now.steps hints.now) }
     requires free { AreFree marks.old }
     requires empty { set.old.items ≡ [] }
     ensures derived { IfOk result (λ derived. IsTrue derived

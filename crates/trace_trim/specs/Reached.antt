@@ -6,7 +6,8 @@ use Rattle.sat_base.specs.declared.origins.Ref.{Ref}
 abbrev pub LeadTo : {X : Type 0} → (Ref → Option X) → List Ref → X → Type 0
 LeadTo next hints other = (hint : Ref) × Contains hints hint × (next hint ≡ Some other)
 
--- each one is cited by the next one, and the last one by the start; it is the start itself where there is none
+-- each one is cited by the next one, and the last one by the start; it is the start itself where
+-- there is none
 abbrev pub IsCitedAlong : {X : Type 0} → (X → X → Type 0) → X → X → List X → Type 0
 IsCitedAlong cites start one [] = one ≡ start
 IsCitedAlong cites start one (user ∷ users) = cites user one × IsCitedAlong cites start user users
@@ -16,7 +17,8 @@ abbrev pub IsReached : {X : Type 0} → (X → X → Type 0) → X → X → Typ
 IsReached {X} cites start one = (users : List X) × IsCitedAlong cites start one users
 
 -- Exactly what is reached, each once, in its order. The start stands last.
-pub record AreReached {X : Type 0} (cites before : X → X → Type 0) (start : X) (reached : List X) : Type 0 where
+pub record AreReached {X : Type 0} (cites before : X → X → Type 0) (start : X)
+    (reached : List X) : Type 0 where
   pub exactly : (one : X) → Contains reached one ↔ IsReached cites start one
   pub ascending : AllPairs before reached
   pub front : List X

@@ -1,10 +1,10 @@
 //! A derivation trimmed to what its last step rests on.
 //!
-//! A solver learns far more than one answer needs. `trim` takes the steps that are reached over hints from
-//! the answer's step, out of the shared packets and the solver's own steps, and numbers them anew; the layer
-//! above uses that the result is a trace wherever the given steps are ok. `pack` takes those own steps alone
-//! that the shared database doesn't have yet, as a packet that is ok over it. This crate knows no text, no
-//! solver and no board.
+//! A solver learns far more than one answer needs. `trim` takes the steps that are reached over
+//! hints from the answer's step, out of the shared packets and the solver's own steps, and numbers
+//! them anew; the layer above uses that the result is a trace wherever the given steps are ok.
+//! `pack` takes those own steps alone that the shared database doesn't have yet, as a packet that
+//! is ok over it. This crate knows no text, no solver and no board.
 #![tactic(auto)]
 
 mod lookup;

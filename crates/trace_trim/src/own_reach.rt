@@ -13,8 +13,8 @@ use std::alloc::{AllocError, Global};
 use std::collections::BTreeSet;
 use trace_core::Step;
 
-/// The numbers of the own steps that `pack` puts into the packet of own step `last`, ascending: it, and those
-/// without a name that it rests on.
+/// The numbers of the own steps that `pack` puts into the packet of own step `last`, ascending: it,
+/// and those without a name that it rests on.
 pub fn packed_numbers(
     alloc: Global,
     own: &[Step],
@@ -45,7 +45,10 @@ fn add_unnamed(
     names: &[Option<Ref>],
     hints: &[Ref],
 ) -> Result<(), AllocError>
-    ensures { OnOk result ((number : ℕ) → Contains pending.new.keys number ↔ (Contains pending.old.keys number ⊎ LeadTo (packed.unnamed names.now) hints.now number)) }
+    ensures { OnOk result
+        ((number : ℕ)
+        → Contains pending.new.keys number
+        ↔ (Contains pending.old.keys number ⊎ LeadTo (packed.unnamed names.now) hints.now number)) }
 {
     for hint in hints {
         if let Some(number) = unnamed(names, *hint) {

@@ -30,7 +30,8 @@ fn place_among(numbers: &[u64], number: u64) -> u64
 /// A hint of an own step, as the packet of the steps of these numbers has it.
 fn packed_hint(names: &[Option<Ref>], numbers: &[u64], hint: Ref) -> Ref
     requires ascending { AllPairs (λ m n. m < n) numbers.now }
-    requires there { (number : ℕ) → packed.unnamed names.now hint ≡ Some number → Contains numbers.now number }
+    requires there { (number : ℕ) → packed.unnamed names.now hint ≡ Some number
+        → Contains numbers.now number }
     ensures { IsPackedHint names.now numbers.now hint result }
 {
     match hint {
@@ -50,8 +51,10 @@ fn packed_hints(
     hints: &[Ref],
 ) -> Result<Vec<Ref>, AllocError>
     requires ascending { AllPairs (λ m n. m < n) numbers.now }
-    requires there { (number : ℕ) → LeadTo (packed.unnamed names.now) hints.now number → Contains numbers.now number }
-    ensures { IfOk result (λ renumbered. AllZip (IsPackedHint names.now numbers.now) hints.now renumbered.items) }
+    requires there { (number : ℕ) → LeadTo (packed.unnamed names.now) hints.now number
+        → Contains numbers.now number }
+    ensures { IfOk result
+        (λ renumbered. AllZip (IsPackedHint names.now numbers.now) hints.now renumbered.items) }
 {
     let mut renumbered = Vec::with_capacity(alloc, hints.len())?;
     for hint in hints {
@@ -68,7 +71,8 @@ pub(crate) fn packed_step(
     step: &Step,
 ) -> Result<Step, AllocError>
     requires ascending { AllPairs (λ m n. m < n) numbers.now }
-    requires there { (number : ℕ) → LeadTo (packed.unnamed names.now) step.now.hints number → Contains numbers.now number }
+    requires there { (number : ℕ) → LeadTo (packed.unnamed names.now) step.now.hints number
+        → Contains numbers.now number }
     ensures { IfOk result (IsStepWithHints (IsPackedHint names.now numbers.now) step.now) }
 {
     let hints = packed_hints(alloc, names, numbers, step.hints.items())?;

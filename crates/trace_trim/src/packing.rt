@@ -3,7 +3,8 @@
 ghost use Rattle.std.specs.Prelude.{◌≡◌, map, IsSome, IfOk};
 ghost use Rattle.trace_core.specs.Known.{item_at};
 ghost use Rattle.trace_core.specs.Trace.{known_of};
-ghost use Rattle.trace_trim.specs.Packed.{CiteEarlierOwn, IsPack, IsOkWhereOwnAreOk, ends_in, HasGreatestTagLast, AreOfOwn};
+ghost use Rattle.trace_trim.specs.Packed.{CiteEarlierOwn, IsPack, IsOkWhereOwnAreOk, ends_in};
+ghost use Rattle.trace_trim.specs.Packed.{HasGreatestTagLast, AreOfOwn};
 
 use crate::lookup::own_step;
 use crate::own_reach::packed_numbers;
@@ -12,10 +13,11 @@ use sat_base::Ref;
 use std::alloc::{AllocError, Global};
 use trace_core::{Packet, Step, Steps};
 
-/// The packet of own step `last`, counted from 1: that step, and those own steps that it rests on and that
-/// have no name in the shared database, in their order and numbered anew. Item n - 1 of `names` is the name
-/// of own step n there; a hint that names an own step with a name takes that name. Time and memory grow with
-/// the steps of the packet and their hints, and not with all that were learnt.
+/// The packet of own step `last`, counted from 1: that step, and those own steps that it rests on
+/// and that have no name in the shared database, in their order and numbered anew. Item n - 1 of
+/// `names` is the name of own step n there; a hint that names an own step with a name takes that
+/// name. Time and memory grow with the steps of the packet and their hints, and not with all that
+/// were learnt.
 pub fn pack(
     alloc: Global,
     own: &[Step],

@@ -23,7 +23,8 @@ pub(crate) fn reached_from(
 ) -> Result<Vec<Ref>, AllocError>
     requires last { IsSome (item_at own.now last) }
     requires earlier { CiteEarlierSteps (map arc_value packets.now) own.now }
-    ensures { IfOk result (λ names. AreNamesReached (map arc_value packets.now) own.now last names.items) }
+    ensures { IfOk result
+        (λ names. AreNamesReached (map arc_value packets.now) own.now last names.items) }
 {
     let mut names = Vec::new(alloc);
     let mut pending = BTreeSet::new(alloc);
@@ -41,7 +42,10 @@ pub(crate) fn reached_from(
 
 /// Adds the names of the steps that these hints of the step of that name name.
 fn add_cited(pending: &mut BTreeSet<Ref>, user: Ref, hints: &[Ref]) -> Result<(), AllocError>
-    ensures { OnOk result ((name : Ref) → Contains pending.new.keys name ↔ (Contains pending.old.keys name ⊎ AreCiting user hints.now name)) }
+    ensures { OnOk result
+        ((name : Ref)
+        → Contains pending.new.keys name
+        ↔ (Contains pending.old.keys name ⊎ AreCiting user hints.now name)) }
 {
     for hint in hints {
         if let Some(name) = cited_by(user, *hint) {

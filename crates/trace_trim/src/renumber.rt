@@ -45,7 +45,8 @@ fn renumbered_hints(
 ) -> Result<Vec<Ref>, AllocError>
     requires ascending { AllPairs IsBefore names.now }
     requires there { (name : Ref) → AreCiting user hints.now name → Contains names.now name }
-    ensures { IfOk result (λ renumbered. AllZip (IsRenumberedHint names.now user) hints.now renumbered.items) }
+    ensures { IfOk result
+        (λ renumbered. AllZip (IsRenumberedHint names.now user) hints.now renumbered.items) }
 {
     let mut renumbered = Vec::with_capacity(alloc, hints.len())?;
     for hint in hints {

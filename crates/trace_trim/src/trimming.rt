@@ -13,13 +13,11 @@ use std::alloc::{AllocError, Global};
 use std::sync::Arc;
 use trace_core::{Packet, Step};
 
-/// The steps that own step `last`, counted from 1, rests on: exactly those that are reached from it over
-/// hints, renumbered as one list of own steps in which hints look back. The last of them has the clause of
-/// own step `last`. Where the given steps are ok over some inputs, they are a trace, also over
-/// those inputs
-/// alone whose tag is at most that of own step `last`. Time and memory grow with the steps that are
-/// reached
-/// and their hints, and not with all that were learnt.
+/// The steps that own step `last`, counted from 1, rests on: exactly those that are reached from it
+/// over hints, renumbered as one list of own steps in which hints look back. The last of them has
+/// the clause of own step `last`. Where the given steps are ok over some inputs, they are a trace,
+/// also over those inputs alone whose tag is at most that of own step `last`. Time and memory grow
+/// with the steps that are reached and their hints, and not with all that were learnt.
 pub fn trim(
     alloc: Global,
     packets: &[Arc<Packet>],
@@ -28,8 +26,10 @@ pub fn trim(
 ) -> Result<Vec<Step>, AllocError>
     requires last { IsSome (item_at own.now last) }
     requires earlier { CiteEarlierSteps (map arc_value packets.now) own.now }
-    ensures reached { IfOk result (λ steps. IsTrimmed (map arc_value packets.now) own.now last steps.items) }
-    ensures trace { IfOk result (λ steps. IsTraceWhereOk (map arc_value packets.now) own.now last steps.items) }
+    ensures reached { IfOk result
+        (λ steps. IsTrimmed (map arc_value packets.now) own.now last steps.items) }
+    ensures trace { IfOk result
+        (λ steps. IsTraceWhereOk (map arc_value packets.now) own.now last steps.items) }
 {
     let names = reached_from(alloc, packets, own, last)?;
     let mut steps = Vec::with_capacity(alloc, names.len())?;
