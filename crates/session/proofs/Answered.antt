@@ -37,12 +37,12 @@ paused_learns old mid new cube limit round a solves is =
     let s = subst (λ (r : Round). Solves mid new cube limit r) is solves in
     record { more = a.more ++ s.more; learns = learns_then old mid new a.more s.more [] a.learns s.learns }
 
-pub less_is_left : (old mid new : Search) (cube : List ℕ) (limit : ℕ) (round : Round) → IsSearching new cube → HasLearntSome (solver_of old) (solver_of mid) → Solves (solver_of mid) (solver_of new) cube limit round → round ≡ Paused → 0 < limit
+pub less_is_left : (old mid new : Search) (cube : List ℕ) (limit : ℕ) (round : Round) → IsSearching new → HasLearntSome (solver_of old) (solver_of mid) → Solves (solver_of mid) (solver_of new) cube limit round → round ≡ Paused → 0 < limit
     → left_to_learn old new < left_to_learn old mid
 less_is_left old mid new cube limit round kept a solves is some =
     let s = subst (λ (r : Round). Solves (solver_of mid) (solver_of new) cube limit r) is solves in
     let all = paused_learns (solver_of old) (solver_of mid) (solver_of new) cube limit round a solves is in
-    let few = few_learnt old new cube all.more [] kept all.learns in
+    let few = few_learnt old new all.more [] kept all.learns in
     let high : length (held_of new.store.clauses) ≡ length (held_of old.store.clauses) + length all.more = ap length all.learns.held ∙ length-append (held_of old.store.clauses) all.more in
     let more : length (held_of new.store.clauses) ≡ length (held_of mid.store.clauses) + length s.more = ap length s.learns.held ∙ length-append (held_of mid.store.clauses) s.more in
     omega (arith, few, high, more, s.ends, some)

@@ -9,7 +9,7 @@ use Rattle.sat_base.proofs.Opposite.{opposite-opposite}
 use Rattle.trail_core.specs.Trail.{TrailView, IsTrail, lits_of}
 use Rattle.trail_core.specs.UnderTrail.{IsTrueLit, IsUnassigned}
 use Rattle.trail_core.specs.Truth.{HasTruth, truth_of}
-use Rattle.session.specs.Moves.{IsCubeTrue}
+use Rattle.session.specs.OnTrail.{IsCubeTrue}
 
 -- a truth value decides
 pub value_decides : (trail : TrailView) (lit : ℕ) (value : Bool) → IsTrail trail → HasTruth (lits_of trail.entries) lit (truth_of (Some value)) → MatchBool value (IsTrueLit (lits_of trail.entries) lit) (IsTrueLit (lits_of trail.entries) lit → ⊥)

@@ -11,31 +11,33 @@ use Rattle.trail_core.specs.UnderTrail.{IsUnassigned, IsFounded, IsComplete}
 use Rattle.clause_arena.specs.Arena.{lits_of_each}
 use Rattle.analyze.specs.Table.{KnowsUnits}
 use Rattle.session.specs.declared.search.Search.{Search}
-use Rattle.session.specs.Moves.{IsDecidable}
 use Rattle.session.specs.OnTrail.{IsOnTrail}
 use Rattle.session.specs.Searching.{IsSearching, AreAllNamed, table_of}
 use Rattle.session.proofs.Fronts.{level_at}
 use Rattle.session.proofs.OnTrails.{decided_on_trail}
+use Rattle.session.proofs.Cursor.{assigned_more_entries}
 use Rattle.session.proofs.Learnings.{named_push}
 use Rattle.session.proofs.Choices.{same_variable}
 use Rattle.session.proofs.Asserted.{true_at, place_of_true}
 use Rattle.sat_base.proofs.Members.{any_member, Contains-from_map, Contains-cases}
 
 -- the unit clauses of level 0 are known
-pub all_units : (s : Search) (cube : List ℕ) → IsSearching s cube → AreAllNamed s → KnowsUnits (table_of s) s.trail.entries s.units.items s.tags.items
-all_units s cube kept all place lt at_zero = kept.named.known place (all.each place lt at_zero)
+pub all_units : (s : Search) → IsSearching s → AreAllNamed s → KnowsUnits (table_of s) s.trail.entries s.units.items s.tags.items
+all_units s kept all place lt at_zero = kept.named.known place (all.each place lt at_zero)
 
 -- a decision on a new level
-pub search_decided : (s : Search) (cube : List ℕ) (trail : TrailView) (vars lit : ℕ) → IsSearching s cube → IsTrail s.trail → IsComplete s.trail.entries s.trail.depth (lits_of_each s.store.clauses) → AreAllNamed s → IsDecidable (lits_of s.trail.entries) cube vars lit
-    → trail.entries ≡ s.trail.entries ++ record { lit = lit; level = s.trail.depth + 1; reason = None } ∷ [] → trail.depth ≡ s.trail.depth + 1 → trail.vars ≡ s.trail.vars → IsSearching (record s { trail = trail }) cube
-search_decided s cube trail vars lit kept is complete all decidable entries_are depth_is vars_are = record {
+pub search_decided : (s : Search) (trail : TrailView) (lit : ℕ) → IsSearching s → IsTrail trail → IsComplete s.trail.entries s.trail.depth (lits_of_each s.store.clauses) → AreAllNamed s
+    → trail.entries ≡ s.trail.entries ++ record { lit = lit; level = s.trail.depth + 1; reason = None } ∷ [] → trail.depth ≡ s.trail.depth + 1 → trail.vars ≡ s.trail.vars → IsSearching (record s { trail = trail })
+search_decided s trail lit kept is complete all entries_are depth_is vars_are = record {
   stock = kept.stock;
   room = record { over = kept.room.over; reserved = omega (arith, kept.room.reserved, vars_are); store = omega (arith, kept.room.store, vars_are); scratch = omega (arith, kept.room.scratch, vars_are); units = omega (arith, kept.room.units, vars_are); tags = omega (arith, kept.room.tags, vars_are) };
   counted = record { greatest = kept.counted.greatest; inputs = kept.counted.inputs; learnt = kept.counted.learnt };
-  on = subst (λ (es : List Entry). IsOnTrail (lits_of_each s.store.clauses) cube es trail.depth) (sym entries_are)
-      (subst (IsOnTrail (lits_of_each s.store.clauses) cube (s.trail.entries ++ entry ∷ [])) (sym depth_is)
-      (decided_on_trail (lits_of_each s.store.clauses) cube s.trail.entries s.trail.depth lit is.below complete decidable.allowed kept.on));
+  on = subst (λ (es : List Entry). IsOnTrail (lits_of_each s.store.clauses) es trail.depth) (sym entries_are)
+      (subst (IsOnTrail (lits_of_each s.store.clauses) (s.trail.entries ++ entry ∷ [])) (sym depth_is)
+      (decided_on_trail (lits_of_each s.store.clauses) s.trail.entries s.trail.depth lit kept.trail.below complete kept.on));
   named = named_push (table_of s) s.trail.entries trail.entries s.units.items s.tags.items s.named entry entries_are kept.named;
+  trail = is;
+  cursor = assigned_more_entries s.trail.entries (entry ∷ []) trail.entries s.cursor entries_are kept.cursor;
   all_named = λ deep place lt bottom. all_at place lt bottom (cases_lt place (length s.trail.entries));
 }
   where

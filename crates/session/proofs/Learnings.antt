@@ -1,15 +1,15 @@
 -- A search that learns a clause.
-use Rattle.std.proofs.Common.{◌≡◌, ◌∙◌, ℕ, ◌+◌, ◌<◌, ◌≤◌, List, [], ◌∷◌, ◌++◌, length, take, Bool, true, false, Option, None, Some, refl, ap, sym, subst, inl, inr, arith, Vec, Global}
+use Rattle.std.proofs.Common.{◌≡◌, ◌∙◌, ℕ, ◌+◌, ◌<◌, ◌≤◌, List, [], ◌∷◌, ◌++◌, length, map, take, Bool, true, false, Option, None, Some, refl, ap, sym, subst, inl, inr, arith, Vec, Global}
 use Rattle.std.specs.Prelude.{◌⊎◌, All, Contains, IsTrue, nat_le, cond}
 use Rattle.std.proofs.lemmas.Bool.{cases_lt, cases_eq, le-leb, leb-true}
-use Rattle.std.proofs.lemmas.List.{length_push, map_push, length-take-le, get_or_push, get_or_append_left}
-use Rattle.std.proofs.lemmas.List.Elements.{All-get_or, All-contains, Contains-append_left, Contains-append_right}
+use Rattle.std.proofs.lemmas.List.{length_push, length-map, map_push, length-take-le, get_or_push, get_or_append_left}
+use Rattle.std.proofs.lemmas.List.Elements.{All-nil, All-cons, All-get_or, All-contains, Contains-append_left, Contains-append_right}
 use Rattle.sat_base.specs.Lit.{IsLit, IsLitSet, IsTautology, is_ascending, variable, opposite, greatest_of, greatest_of_all}
 use Rattle.sat_base.specs.declared.origins.Ref.{Ref}
 use Rattle.sat_base.specs.declared.origins.Ref.TheVariants.{Own}
 use Rattle.sat_base.proofs.Members.{All-from_members, Contains-here, Contains-cases, Contains-from_map}
 use Rattle.sat_base.proofs.Opposite.{opposite-opposite}
-use Rattle.trace_core.specs.Known.{Known, clause_of}
+use Rattle.trace_core.specs.Known.{Known, clause_of, item_at}
 use Rattle.trace_core.specs.Trace.{known_of}
 use Rattle.trace_core.specs.declared.derivation.Step.{Step}
 use Rattle.clause_arena.specs.Arena.{ArenaClause, clause_at, no_clause, lits_of_each}
@@ -25,24 +25,27 @@ use Rattle.session.specs.Stock.{IsStocked}
 use Rattle.session.proofs.InOrder.{in_order-itself}
 use Rattle.session.specs.OnTrail.{IsOnTrail}
 use Rattle.session.specs.Units.{IsNamed}
-use Rattle.session.specs.Searching.{IsSearching, packets_of, table_of}
+use Rattle.session.specs.Searching.{IsSearching, packets_of, solver_of, table_of}
 use Rattle.session.specs.declared.conflicts.Lesson.{Lesson}
 use Rattle.session.specs.Lessons.{IsLesson}
-use Rattle.session.specs.Learning.{HasLearntOne}
-use Rattle.session.proofs.Lists.{All-push, All-under}
+use Rattle.session.specs.Solving.{IsProperOver, LearnsOne}
+use Rattle.session.proofs.Lists.{All-push, All-under, item_at-last}
 use Rattle.session.proofs.UpTo.{below_greatest, greatest_within}
 use Rattle.session.proofs.Stocked.{stock_learnt, inputs_learnt}
 use Rattle.session.proofs.Fronts.{level_at, IsFront, Ascends, front_of, up_to_is, up_to_take, entry_in}
 use Rattle.session.proofs.OnTrails.{back_on_trail, more_on_trail, forced_on_trail}
 use Rattle.session.proofs.Asserted.{IsOnce, open_below, forces}
 use Rattle.session.proofs.Searches.{name_of_clause}
+use Rattle.session.proofs.Cursor.{none_assigned, assigned_more_entries}
+use Rattle.session.proofs.Steps.{pushed_steps}
+use Rattle.session.proofs.Learning.{contains_none}
 
 -- What the search knows, for a learnt clause and a refuted part.
-pub knows_arena : (s : Search) (cube : List ℕ) → IsSearching s cube → KnowsArena (table_of s) s.store.clauses
-knows_arena s cube kept id known = name_of_clause s cube id kept known
+pub knows_arena : (s : Search) → IsSearching s → KnowsArena (table_of s) s.store.clauses
+knows_arena s kept id known = name_of_clause s id kept known
 
-pub knows_units : (s : Search) (cube : List ℕ) → IsSearching s cube → 0 < s.trail.depth → KnowsUnits (table_of s) s.trail.entries s.units.items s.tags.items
-knows_units s cube kept deep place lt zero = kept.named.known place (kept.all_named deep place lt zero)
+pub knows_units : (s : Search) → IsSearching s → 0 < s.trail.depth → KnowsUnits (table_of s) s.trail.entries s.units.items s.tags.items
+knows_units s kept deep place lt zero = kept.named.known place (kept.all_named deep place lt zero)
 
 -- a clause that is false under a trail is no tautology
 pub false_proper : (trail : TrailView) (clause : List ℕ) → IsTrail trail → IsFalseClause (lits_of trail.entries) clause → IsTautology clause → ⊥
@@ -52,10 +55,10 @@ false_proper trail clause is all both =
     is.consistent both.lit (subst (Contains (lits_of trail.entries)) (opposite-opposite both.lit) b.stands) a.stands
 
 -- a jump back
-pub search_back : (s : Search) (cube : List ℕ) (trail : TrailView) (level : ℕ) → IsSearching s cube → IsTrail s.trail → level ≤ s.trail.depth → 0 < s.trail.depth
-    → trail.entries ≡ up_to level s.trail.entries → trail.depth ≡ level → trail.vars ≡ s.trail.vars → IsSearching (record s { trail = trail }) cube
-search_back s cube trail level kept is le deep entries_are depth_is vars_are =
-    let (n, front) = front_of s.trail.entries level is.ascending in
+pub search_back : (s : Search) (trail : TrailView) (level : ℕ) → IsSearching s → IsTrail trail → level ≤ s.trail.depth → 0 < s.trail.depth
+    → trail.entries ≡ up_to level s.trail.entries → trail.depth ≡ level → trail.vars ≡ s.trail.vars → IsSearching (record s { trail = trail; cursor = 0 })
+search_back s trail level kept is le deep entries_are depth_is vars_are =
+    let (n, front) = front_of s.trail.entries level kept.trail.ascending in
     let taken : trail.entries ≡ take n s.trail.entries = entries_are ∙ up_to_is s.trail.entries level n front in
     let size : length trail.entries ≡ n = ap length taken ∙ length-take-le n s.trail.entries front.within in
     let all_in : (place : ℕ) → place < s.named → place < n = λ place lt. in_front n front place (omega (arith, lt, kept.named.within)) (kept.named.zero place lt) in
@@ -64,13 +67,15 @@ search_back s cube trail level kept is le deep entries_are depth_is vars_are =
       stock = kept.stock;
       room = record { over = kept.room.over; reserved = omega (arith, kept.room.reserved, vars_are); store = omega (arith, kept.room.store, vars_are); scratch = omega (arith, kept.room.scratch, vars_are); units = omega (arith, kept.room.units, vars_are); tags = omega (arith, kept.room.tags, vars_are) };
       counted = record { greatest = kept.counted.greatest; inputs = kept.counted.inputs; learnt = kept.counted.learnt };
-      on = subst (λ (es : List Entry). IsOnTrail (lits_of_each s.store.clauses) cube es trail.depth) (sym entries_are)
-          (subst (IsOnTrail (lits_of_each s.store.clauses) cube (up_to level s.trail.entries)) (sym depth_is) (back_on_trail (lits_of_each s.store.clauses) cube s.trail.entries s.trail.depth level is.ascending le kept.on));
+      on = subst (λ (es : List Entry). IsOnTrail (lits_of_each s.store.clauses) es trail.depth) (sym entries_are)
+          (subst (IsOnTrail (lits_of_each s.store.clauses) (up_to level s.trail.entries)) (sym depth_is) (back_on_trail (lits_of_each s.store.clauses) s.trail.entries s.trail.depth level kept.trail.ascending le kept.on));
       named = record {
         within = omega (arith, size, within n front all_in);
         zero = λ place lt. ap (λ (e : Entry). e.level) (same place (all_in place lt)) ∙ kept.named.zero place lt;
         known = λ place lt. subst (λ (e : Entry). IsNameOf (table_of s) (unit_of s.units.items (variable e.lit)) (e.lit ∷ []) (tag_of_unit s.tags.items (variable e.lit))) (sym (same place (all_in place lt))) (kept.named.known place lt);
       };
+      trail = is;
+      cursor = none_assigned (lits_of trail.entries);
       all_named = λ _ place lt zero. (let place_in : place < n = omega (arith, lt, size) in
           kept.all_named deep place (omega (arith, place_in, front.within)) (ap (λ (e : Entry). e.level) (sym (same place place_in)) ∙ zero));
     }
@@ -100,11 +105,11 @@ named_push table entries entries' units tags n entry are named =
     }
 
 -- A learnt clause comes to be held.
-pub search_added : (s : Search) (cube : List ℕ) (store : StoreView) (step : Step) (number : ℕ) → IsSearching s cube
+pub search_added : (s : Search) (store : StoreView) (step : Step) (number : ℕ) → IsSearching s
     → store.clauses ≡ s.store.clauses ++ record { lits = step.clause; tag = step.tag; origin = Own number } ∷ [] → store.vars ≡ s.store.vars
     → IsStep s.steps.items number (known_of step) → All IsLit step.clause → IsTrue (is_ascending step.clause) → AreWithin s.greatest step.clause
-    → ((level : ℕ) → level < s.trail.depth → IsOpenClause (lits_of (up_to level s.trail.entries)) step.clause) → IsSearching (record s { store = store }) cube
-search_added s cube store step number kept added vars_are is lits ascending within is_open = record {
+    → ((level : ℕ) → level < s.trail.depth → IsOpenClause (lits_of (up_to level s.trail.entries)) step.clause) → IsSearching (record s { store = store })
+search_added s store step number kept added vars_are is lits ascending within is_open = record {
   stock = subst (λ clauses. IsStocked clauses (packets_of s) s.steps.items s.bound) (sym added) (stock_learnt s.store.clauses (packets_of s) s.steps.items s.bound step number kept.stock is lits ascending);
   room = record {
     over = subst (λ clauses. AreAllWithin s.greatest clauses) (sym added) (All-push (λ (clause : ArenaClause). AreWithin s.greatest clause.lits) s.store.clauses learnt kept.room.over within);
@@ -121,9 +126,11 @@ search_added s cube store step number kept added vars_are is lits ascending with
         (All-under (λ number. (one : Known) × IsStep s.steps.items number one × Contains (held_of s.store.clauses) one) (λ number. (one : Known) × IsStep s.steps.items number one × Contains (held_of s.store.clauses ++ known_clause learnt ∷ []) one) s.learnt.items
         (λ n (one, named, there). (one, named, Contains-append_left (held_of s.store.clauses) (known_clause learnt ∷ []) one there)) kept.counted.learnt);
   };
-  on = subst (λ lits. IsOnTrail lits cube s.trail.entries s.trail.depth) (sym (ap lits_of_each added ∙ map_push (λ (clause : ArenaClause). clause.lits) s.store.clauses learnt))
-      (more_on_trail (lits_of_each s.store.clauses) step.clause cube s.trail.entries s.trail.depth is_open kept.on);
+  on = subst (λ lits. IsOnTrail lits s.trail.entries s.trail.depth) (sym (ap lits_of_each added ∙ map_push (λ (clause : ArenaClause). clause.lits) s.store.clauses learnt))
+      (more_on_trail (lits_of_each s.store.clauses) step.clause s.trail.entries s.trail.depth is_open kept.on);
   named = subst (λ inputs. IsNamed (named_by inputs (packets_of s) s.steps.items) s.trail.entries s.units.items s.tags.items s.named) (sym inputs) kept.named;
+  trail = kept.trail;
+  cursor = kept.cursor;
   all_named = kept.all_named;
 }
   where
@@ -140,9 +147,9 @@ pub known_learnt : (step : Step) (number : ℕ) → IsTrue (is_ascending step.cl
 known_learnt step number ascending = ap (λ lits. record { clause = lits; tag = step.tag }) (in_order-itself step.clause ascending)
 
 -- Its step is listed.
-pub search_listed : (s : Search) (cube : List ℕ) (learnt : Vec ℕ Global) (number : ℕ) (one : Known) → IsSearching s cube → learnt.items ≡ s.learnt.items ++ number ∷ [] → IsStep s.steps.items number one → Contains (held_of s.store.clauses) one
-    → IsSearching (record s { learnt = learnt }) cube
-search_listed s cube learnt number one kept listed is held = record {
+pub search_listed : (s : Search) (learnt : Vec ℕ Global) (number : ℕ) (one : Known) → IsSearching s → learnt.items ≡ s.learnt.items ++ number ∷ [] → IsStep s.steps.items number one → Contains (held_of s.store.clauses) one
+    → IsSearching (record s { learnt = learnt })
+search_listed s learnt number one kept listed is held = record {
   stock = kept.stock;
   room = record { over = kept.room.over; reserved = kept.room.reserved; store = kept.room.store; scratch = kept.room.scratch; units = kept.room.units; tags = kept.room.tags };
   counted = record {
@@ -153,11 +160,13 @@ search_listed s cube learnt number one kept listed is held = record {
   };
   on = kept.on;
   named = kept.named;
+  trail = kept.trail;
+  cursor = kept.cursor;
   all_named = kept.all_named;
 }
 
-pub search_unlisted : (s : Search) (cube : List ℕ) (learnt : Vec ℕ Global) → IsSearching s cube → learnt.items ≡ s.learnt.items → IsSearching (record s { learnt = learnt }) cube
-search_unlisted s cube learnt kept same = record {
+pub search_unlisted : (s : Search) (learnt : Vec ℕ Global) → IsSearching s → learnt.items ≡ s.learnt.items → IsSearching (record s { learnt = learnt })
+search_unlisted s learnt kept same = record {
   stock = kept.stock;
   room = record { over = kept.room.over; reserved = kept.room.reserved; store = kept.room.store; scratch = kept.room.scratch; units = kept.room.units; tags = kept.room.tags };
   counted = record {
@@ -167,19 +176,23 @@ search_unlisted s cube learnt kept same = record {
   };
   on = kept.on;
   named = kept.named;
+  trail = kept.trail;
+  cursor = kept.cursor;
   all_named = kept.all_named;
 }
 
 -- Its literal becomes true.
-pub search_assigned : (s : Search) (cube : List ℕ) (trail : TrailView) (entry : Entry) → IsSearching s cube → trail.entries ≡ s.trail.entries ++ entry ∷ [] → trail.depth ≡ s.trail.depth → trail.vars ≡ s.trail.vars → entry.level ≡ s.trail.depth
-    → IsForced (lits_of_each s.store.clauses) s.trail.entries entry → IsSearching (record s { trail = trail }) cube
-search_assigned s cube trail entry kept entries_are depth_is vars_are level forced = record {
+pub search_assigned : (s : Search) (trail : TrailView) (entry : Entry) → IsSearching s → trail.entries ≡ s.trail.entries ++ entry ∷ [] → trail.depth ≡ s.trail.depth → trail.vars ≡ s.trail.vars → entry.level ≡ s.trail.depth
+    → IsForced (lits_of_each s.store.clauses) s.trail.entries entry → IsTrail trail → IsSearching (record s { trail = trail })
+search_assigned s trail entry kept entries_are depth_is vars_are level forced is = record {
   stock = kept.stock;
   room = record { over = kept.room.over; reserved = omega (arith, kept.room.reserved, vars_are); store = omega (arith, kept.room.store, vars_are); scratch = omega (arith, kept.room.scratch, vars_are); units = omega (arith, kept.room.units, vars_are); tags = omega (arith, kept.room.tags, vars_are) };
   counted = record { greatest = kept.counted.greatest; inputs = kept.counted.inputs; learnt = kept.counted.learnt };
-  on = subst (λ (es : List Entry). IsOnTrail (lits_of_each s.store.clauses) cube es trail.depth) (sym entries_are)
-      (subst (IsOnTrail (lits_of_each s.store.clauses) cube (s.trail.entries ++ entry ∷ [])) (sym depth_is) (forced_on_trail (lits_of_each s.store.clauses) cube s.trail.entries s.trail.depth entry kept.on forced level));
+  on = subst (λ (es : List Entry). IsOnTrail (lits_of_each s.store.clauses) es trail.depth) (sym entries_are)
+      (subst (IsOnTrail (lits_of_each s.store.clauses) (s.trail.entries ++ entry ∷ [])) (sym depth_is) (forced_on_trail (lits_of_each s.store.clauses) s.trail.entries s.trail.depth entry kept.on forced level));
   named = named_push (table_of s) s.trail.entries trail.entries s.units.items s.tags.items s.named entry entries_are kept.named;
+  trail = is;
+  cursor = assigned_more_entries s.trail.entries (entry ∷ []) trail.entries s.cursor entries_are kept.cursor;
   all_named = λ deep place lt zero. all_at deep place lt zero (cases_lt place (length s.trail.entries));
 }
   where
@@ -220,18 +233,18 @@ small_name table bound name lits tag is within = record {
 }
 
 -- a literal of level 0 is over the variables of the clauses
-zero_within : (s : Search) (cube : List ℕ) (place : ℕ) → IsSearching s cube → place < length s.trail.entries → level_at s.trail.entries place ≡ 0 → variable (entry_at s.trail.entries place).lit ≤ s.greatest
-zero_within s cube place kept lt zero =
+zero_within : (s : Search) (place : ℕ) → IsSearching s → place < length s.trail.entries → level_at s.trail.entries place ≡ 0 → variable (entry_at s.trail.entries place).lit ≤ s.greatest
+zero_within s place kept lt zero =
     let forced = kept.on.zero.forced place lt zero in
     let known : forced.id < length s.store.clauses = omega (arith, forced.known, length-lits_of_each s.store.clauses) in
     All-contains (λ lit. variable lit ≤ s.greatest) (clause_at s.store.clauses forced.id).lits (entry_at s.trail.entries place).lit
     (All-get_or (λ (clause : ArenaClause). AreWithin s.greatest clause.lits) s.store.clauses forced.id no_clause known kept.room.over)
     (subst (λ (lits : List ℕ). Contains lits (entry_at s.trail.entries place).lit) (lits_at-each s.store.clauses forced.id known) forced.rest.stands)
 
-pub learnt_within : (s : Search) (cube : List ℕ) (step : Step) (met : List ℕ) → IsSearching s cube → 0 < s.trail.depth
+pub learnt_within : (s : Search) (step : Step) (met : List ℕ) → IsSearching s → 0 < s.trail.depth
     → ((table : Ref → Option Known) → KnowsArena table s.store.clauses → KnowsUnits table s.trail.entries s.units.items s.tags.items → IsLearntBy table s.trail.entries step met)
     → AreWithin s.greatest step.clause
-learnt_within s cube step met kept deep derived = All-from_members (λ lit. variable lit ≤ s.greatest) step.clause (λ lit has.
+learnt_within s step met kept deep derived = All-from_members (λ lit. variable lit ≤ s.greatest) step.clause (λ lit has.
     let (clause, among, stands) = by_small.covered lit has in
     let (hint, hint_in, is) = Contains-from_map (λ hint. clause_of (table hint)) step.hints clause among in
     small_lits s.greatest (table_of s hint) lit (subst (λ (lits : List ℕ). Contains lits lit) (sym is) stands))
@@ -241,26 +254,26 @@ learnt_within s cube step met kept deep derived = All-from_members (λ lit. vari
 
     by_small : IsLearntBy table s.trail.entries step met
     by_small = derived table
-        (λ id known. small_name (table_of s) s.greatest (clause_at s.store.clauses id).origin (clause_at s.store.clauses id).lits (clause_at s.store.clauses id).tag (knows_arena s cube kept id known)
+        (λ id known. small_name (table_of s) s.greatest (clause_at s.store.clauses id).origin (clause_at s.store.clauses id).lits (clause_at s.store.clauses id).tag (knows_arena s kept id known)
         (λ lit has. All-contains (λ x. variable x ≤ s.greatest) (clause_at s.store.clauses id).lits lit (All-get_or (λ (clause : ArenaClause). AreWithin s.greatest clause.lits) s.store.clauses id no_clause known kept.room.over) has))
-        (λ place lt zero. small_name (table_of s) s.greatest (unit_of s.units.items (variable (entry_at s.trail.entries place).lit)) ((entry_at s.trail.entries place).lit ∷ []) (tag_of_unit s.tags.items (variable (entry_at s.trail.entries place).lit)) (knows_units s cube kept deep place lt zero)
+        (λ place lt zero. small_name (table_of s) s.greatest (unit_of s.units.items (variable (entry_at s.trail.entries place).lit)) ((entry_at s.trail.entries place).lit ∷ []) (tag_of_unit s.tags.items (variable (entry_at s.trail.entries place).lit)) (knows_units s kept deep place lt zero)
         (λ lit has. (elim (Contains-cases (entry_at s.trail.entries place).lit lit [] has) [
-          | inl same ↦ subst (λ x. variable x ≤ s.greatest) same (zero_within s cube place kept lt zero)
+          | inl same ↦ subst (λ x. variable x ≤ s.greatest) same (zero_within s place kept lt zero)
           | inr (k, k_lt, is) ↦ absurd (omega (arith, k_lt))
         ])))
 
 -- all of what a conflict teaches
-pub lesson_from : (s : Search) (cube : List ℕ) (lesson : Lesson) (met : List ℕ) → IsSearching s cube → IsTrail s.trail → 0 < s.trail.depth → lesson.step.clause ≡ lesson.clause
+pub lesson_from : (s : Search) (lesson : Lesson) (met : List ℕ) → IsSearching s → 0 < s.trail.depth → lesson.step.clause ≡ lesson.clause
     → IsFalseClause (lits_of s.trail.entries) lesson.clause → IsAsserting s.trail.entries s.trail.depth lesson.back lesson.clause → IsNew s.store.clauses lesson.clause
     → ((table : Ref → Option Known) → KnowsArena table s.store.clauses → KnowsUnits table s.trail.entries s.units.items s.tags.items → IsLearntBy table s.trail.entries lesson.step met) → IsLesson s lesson
-lesson_from s cube lesson met kept trail deep of refuted asserting fresh derived = record {
-  ok = (derived (table_of s) (knows_arena s cube kept) (knows_units s cube kept deep)).ok;
+lesson_from s lesson met kept deep of refuted asserting fresh derived = record {
+  ok = (derived (table_of s) (knows_arena s kept) (knows_units s kept deep)).ok;
   of = of;
   refuted = refuted;
   asserting = asserting;
   fresh = fresh;
-  proper = false_proper s.trail lesson.clause trail refuted;
-  within = subst (λ clause. AreWithin s.greatest clause) of (learnt_within s cube lesson.step met kept deep derived);
+  proper = false_proper s.trail lesson.clause kept.trail refuted;
+  within = subst (λ clause. AreWithin s.greatest clause) of (learnt_within s lesson.step met kept deep derived);
 }
 
 -- the literal that is unassigned where the trail went back to is forced
@@ -318,18 +331,49 @@ lesson_forces s lesson trail clauses number id lit is l entries_are clauses_are 
         ∙ ap (λ (cs : List ArenaClause). (clause_at cs id).lits) clauses_are
         ∙ ap (λ (one : ArenaClause). one.lits) (get_or_push s.store.clauses learnt no_clause id (sym id_is))
 
-pub learnt_one : (old s : Search) (l : Lesson) (number : ℕ) → IsLesson old l → IsLitSet l.clause → s.steps.items ≡ old.steps.items ++ l.step ∷ [] → number ≡ length s.steps.items → s.learnt.items ≡ old.learnt.items ++ number ∷ []
-    → s.store.clauses ≡ old.store.clauses ++ record { lits = l.clause; tag = l.step.tag; origin = Own number } ∷ [] → (s.greatest ≡ old.greatest) × (s.inputs ≡ old.inputs) × (s.bound ≡ old.bound) → packets_of s ≡ packets_of old → s.trail.vars ≡ old.trail.vars → HasLearntOne old s
-learnt_one old s l number lesson set pushed last listed added numbers packets vars = record {
-  step = l.step;
-  steps = pushed;
-  learnt = listed ∙ ap (λ n. old.learnt.items ++ n ∷ []) last;
-  held = held_last old.store.clauses s.store.clauses l.step number (added ∙ ap (λ lits. old.store.clauses ++ record { lits = lits; tag = l.step.tag; origin = Own number } ∷ []) (sym lesson.of)) (subst (λ lits. IsTrue (is_ascending lits)) (sym lesson.of) set.ascending);
-  fresh = subst (IsNew old.store.clauses) (sym lesson.of) lesson.fresh;
-  proper = subst (λ lits. IsTautology lits → ⊥) (sym lesson.of) lesson.proper;
-  within = subst (λ lits. greatest_of lits ≤ old.greatest) (sym lesson.of) (greatest_within l.clause old.greatest (λ lit has. All-contains (λ x. variable x ≤ old.greatest) l.clause lit lesson.within has));
-  inputs = ap inputs_of added ∙ inputs_learnt old.store.clauses l.clause l.step.tag number;
-  numbers = numbers;
-  packets = packets;
-  vars = vars;
+pub learnt_one : (old s : Search) (l : Lesson) (number : ℕ) → IsSearching old → IsLesson old l → IsLitSet l.clause → s.steps.items ≡ old.steps.items ++ l.step ∷ [] → number ≡ length s.steps.items → s.learnt.items ≡ old.learnt.items ++ number ∷ []
+    → s.store.clauses ≡ old.store.clauses ++ record { lits = l.clause; tag = l.step.tag; origin = Own number } ∷ [] → s.bound ≡ old.bound → packets_of s ≡ packets_of old → LearnsOne (solver_of old) (solver_of s)
+learnt_one old s l number kept lesson set pushed last listed added bound packets = record {
+  one = known_of l.step;
+  learns = record {
+    inputs = ap inputs_of added ∙ inputs_learnt old.store.clauses l.clause l.step.tag number;
+    bound = bound;
+    packets = packets;
+    held = held_last old.store.clauses s.store.clauses l.step number (added ∙ ap (λ lits. old.store.clauses ++ record { lits = lits; tag = l.step.tag; origin = Own number } ∷ []) (sym lesson.of)) (subst (λ lits. IsTrue (is_ascending lits)) (sym lesson.of) set.ascending);
+    names = number ∷ [];
+    learnt = listed;
+    named = (step_is, tt);
+    steps = pushed_steps old.steps.items s.steps.items l.step number pushed last;
+    fresh = (contains_none old.store.clauses l.step (subst (IsNew old.store.clauses) (sym lesson.of) lesson.fresh), tt);
+    proper = All-cons (IsProperOver (inputs_of old.store.clauses)) (known_of l.step) [] (proper, within) (All-nil (IsProperOver (inputs_of old.store.clauses)));
+  };
 }
+  where
+    step_is : IsStep s.steps.items number (known_of l.step)
+    step_is = subst (λ (steps : List Step). IsStep steps number (known_of l.step)) (sym pushed)
+        (subst (λ knowns. item_at knowns number ≡ Some (known_of l.step)) (sym (map_push known_of old.steps.items l.step))
+        (item_at-last (map known_of old.steps.items) (known_of l.step) number (omega (arith, last, ap length pushed, length_push old.steps.items l.step, length-map old.steps.items known_of))))
+
+    proper : IsTautology l.step.clause → ⊥
+    proper = subst (λ lits. IsTautology lits → ⊥) (sym lesson.of) lesson.proper
+
+    within : greatest_of l.step.clause ≤ greatest_of_all (clauses_of (inputs_of old.store.clauses))
+    within =
+        let low : greatest_of l.step.clause ≤ old.greatest = subst (λ lits. greatest_of lits ≤ old.greatest) (sym lesson.of) (greatest_within l.clause old.greatest (λ lit has. All-contains (λ x. variable x ≤ old.greatest) l.clause lit lesson.within has)) in
+        omega (arith, low, kept.counted.greatest)
+
+-- the lesson is learnt, call after call
+pub lesson_learnt : (old p b h new : Search) (l : Lesson) (number : ℕ) → IsSearching old → IsLesson old l → IsLitSet l.clause
+    → p ≡ record old { steps = p.steps } → p.steps.items ≡ old.steps.items ++ l.step ∷ [] → number ≡ length p.steps.items
+    → b ≡ record p { trail = b.trail; cursor = 0 } → h ≡ record b { store = h.store; learnt = h.learnt }
+    → h.store.clauses ≡ b.store.clauses ++ record { lits = l.clause; tag = l.step.tag; origin = Own number } ∷ [] → h.learnt.items ≡ b.learnt.items ++ number ∷ []
+    → solver_of new ≡ solver_of h → LearnsOne (solver_of old) (solver_of new)
+lesson_learnt old p b h new l number kept lesson set stepped pushed last back held added listed same =
+    subst (LearnsOne (solver_of old)) (sym same)
+    (learnt_one old h l number kept lesson set
+    (ap (λ (x : Search). x.steps.items) held ∙ ap (λ (x : Search). x.steps.items) back ∙ pushed)
+    (last ∙ ap (λ (x : Search). length x.steps.items) (sym back) ∙ ap (λ (x : Search). length x.steps.items) (sym held))
+    (listed ∙ ap (λ (x : Search). x.learnt.items ++ number ∷ []) (back ∙ ap (λ (x : Search). record x { trail = b.trail; cursor = 0 }) stepped))
+    (added ∙ ap (λ (x : Search). x.store.clauses ++ record { lits = l.clause; tag = l.step.tag; origin = Own number } ∷ []) (back ∙ ap (λ (x : Search). record x { trail = b.trail; cursor = 0 }) stepped))
+    (ap (λ (x : Search). x.bound) held ∙ ap (λ (x : Search). x.bound) back ∙ ap (λ (x : Search). x.bound) stepped)
+    (ap packets_of held ∙ ap packets_of back ∙ ap packets_of stepped))

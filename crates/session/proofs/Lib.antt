@@ -7,12 +7,12 @@ pub mod SameClauses
 pub mod Fronts
 pub mod Forcing
 pub mod OnTrails
+pub mod Cursor
 pub mod Asserted
 pub mod UnitSteps
 pub mod Reasons
 pub mod Searches
 pub mod Choices
-pub mod Least
 pub mod Assignments
 pub mod Learnings
 pub mod Refuted
@@ -27,6 +27,7 @@ pub mod Taken
 pub mod Solved
 pub mod Sound
 pub mod Repeats
+pub mod Keeping
 pub mod Answered
 pub mod Names
 pub mod Packing

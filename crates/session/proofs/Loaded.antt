@@ -55,8 +55,8 @@ input_came s new clause tag number set parts added vars bound = (
 )
 
 -- The store is cut back to the clauses that were there.
-pub search_restored : (s : Search) (cube : List ℕ) (store : StoreView) → IsSearching s cube → store.clauses ≡ s.store.clauses → store.vars ≡ s.store.vars → IsSearching (record s { store = store }) cube
-search_restored s cube store kept clauses vars = record {
+pub search_restored : (s : Search) (store : StoreView) → IsSearching s → store.clauses ≡ s.store.clauses → store.vars ≡ s.store.vars → IsSearching (record s { store = store })
+search_restored s store kept clauses vars = record {
   stock = subst (λ cs. IsStocked cs (packets_of s) s.steps.items s.bound) (sym clauses) kept.stock;
   room = record {
     over = subst (λ cs. AreAllWithin s.greatest cs) (sym clauses) kept.room.over;
@@ -71,8 +71,10 @@ search_restored s cube store kept clauses vars = record {
     inputs = kept.counted.inputs ∙ ap (λ cs. length (inputs_of cs)) (sym clauses);
     learnt = subst (λ cs. All (λ number. (one : Known) × IsStep s.steps.items number one × Contains (held_of cs) one) s.learnt.items) (sym clauses) kept.counted.learnt;
   };
-  on = subst (λ cs. IsOnTrail (lits_of_each cs) cube s.trail.entries s.trail.depth) (sym clauses) kept.on;
+  on = subst (λ cs. IsOnTrail (lits_of_each cs) s.trail.entries s.trail.depth) (sym clauses) kept.on;
   named = subst (λ cs. IsNamed (named_by (inputs_of cs) (packets_of s) s.steps.items) s.trail.entries s.units.items s.tags.items s.named) (sym clauses) kept.named;
+  trail = kept.trail;
+  cursor = kept.cursor;
   all_named = kept.all_named;
 }
 
@@ -80,8 +82,8 @@ pub restored_solver : (s : Search) (store : StoreView) → store.clauses ≡ s.s
 restored_solver s store clauses = ap (λ cs. record { inputs = inputs_of cs; bound = s.bound; held = held_of cs; steps = s.steps.items; learnt = s.learnt.items; packets = packets_of s }) clauses
 
 -- The next job is loaded.
-pub search_raised : (s : Search) (cube : List ℕ) (bound : ℕ) → IsSearching s cube → s.bound ≤ bound → IsSearching (record s { bound = bound }) cube
-search_raised s cube bound kept le = record {
+pub search_raised : (s : Search) (bound : ℕ) → IsSearching s → s.bound ≤ bound → IsSearching (record s { bound = bound })
+search_raised s bound kept le = record {
   stock = record {
     lits = kept.stock.lits;
     named = kept.stock.named;
@@ -98,6 +100,8 @@ search_raised s cube bound kept le = record {
   counted = record { greatest = kept.counted.greatest; inputs = kept.counted.inputs; learnt = kept.counted.learnt };
   on = kept.on;
   named = kept.named;
+  trail = kept.trail;
+  cursor = kept.cursor;
   all_named = kept.all_named;
 }
 
@@ -148,11 +152,11 @@ loading_done start now clauses rest job loading none = record {
 }
 
 -- What came goes again.
-pub taken_back : (s mid : Search) (cube : List ℕ) (store : StoreView) (n : ℕ) → IsSearching s cube → HasInputsOnly s mid → store.clauses ≡ take n mid.store.clauses → n ≡ length s.store.clauses → store.vars ≡ mid.store.vars
-    → IsSearching (record mid { store = store; greatest = s.greatest; inputs = s.inputs; bound = s.bound }) cube × (solver_of (record mid { store = store; greatest = s.greatest; inputs = s.inputs; bound = s.bound }) ≡ solver_of s)
-taken_back s mid cube store n kept only cut count vars =
-    subst (λ (new : Search). IsSearching new cube × (solver_of new ≡ solver_of s)) (sym same)
-    (search_restored s cube store kept clauses (vars ∙ only.vars), restored_solver s store clauses)
+pub taken_back : (s mid : Search) (store : StoreView) (n : ℕ) → IsSearching s → HasInputsOnly s mid → store.clauses ≡ take n mid.store.clauses → n ≡ length s.store.clauses → store.vars ≡ mid.store.vars
+    → IsSearching (record mid { store = store; greatest = s.greatest; inputs = s.inputs; bound = s.bound }) × (solver_of (record mid { store = store; greatest = s.greatest; inputs = s.inputs; bound = s.bound }) ≡ solver_of s)
+taken_back s mid store n kept only cut count vars =
+    subst (λ (new : Search). IsSearching new × (solver_of new ≡ solver_of s)) (sym same)
+    (search_restored s store kept clauses (vars ∙ only.vars), restored_solver s store clauses)
   where
     same : record mid { store = store; greatest = s.greatest; inputs = s.inputs; bound = s.bound } ≡ record s { store = store }
     same = ap (λ (x : Search). record x { store = store; greatest = s.greatest; inputs = s.inputs; bound = s.bound }) only.parts

@@ -9,7 +9,7 @@ use Rattle.sat_base.specs.Truth.{IsModelOf, lit_true, clause_true}
 use Rattle.sat_base.proofs.Members.{Contains-here, Contains-there, Contains-cases, Contains-map, Contains-from_map, any_member, any_from_member, all_from_members, All-from_members}
 use Rattle.trace_core.specs.Known.{Known}
 use Rattle.clause_arena.specs.Arena.{ArenaClause, lits_of_each}
-use Rattle.trail_core.specs.Trail.{Entry, IsTrail, lits_of}
+use Rattle.trail_core.specs.Trail.{Entry, lits_of}
 use Rattle.trail_core.specs.UnderTrail.{IsFalseLit, IsFalseClause, IsUnassigned, IsOpenClause, IsComplete}
 use Rattle.trail_core.proofs.Levels.{up_to_all}
 use Rattle.propagate.specs.Store.{AreWithin}
@@ -50,9 +50,9 @@ some_true trues (x ∷ lits) assigned open_yet = at (member trues x) (some_true 
         })
         refute rest (inr neither) = assigned x (Contains-here x lits) (record { not_true = λ h. fails h.stands; not_false = λ h. neither h.stands })
 
-pub model_of : (s : Search) (cube : List ℕ) (vars : ℕ) (values : List Bool) → IsSearching s cube → IsTrail s.trail → IsLitSet cube → vars ≡ max s.greatest (greatest_of cube) → IsComplete s.trail.entries s.trail.depth (lits_of_each s.store.clauses)
+pub model_of : (s : Search) (cube : List ℕ) (vars : ℕ) (values : List Bool) → IsSearching s → IsLitSet cube → vars ≡ max s.greatest (greatest_of cube) → IsComplete s.trail.entries s.trail.depth (lits_of_each s.store.clauses)
     → IsWhole (lits_of s.trail.entries) cube vars → IsAssignmentOf (lits_of s.trail.entries) vars values → IsModelOf (clauses_of (inputs_of s.store.clauses)) cube values
-model_of s cube vars values kept trail set vars_are complete whole given = record {
+model_of s cube vars values kept set vars_are complete whole given = record {
   size = given.size ∙ vars_are ∙ ap (λ n. max n (greatest_of cube)) kept.counted.greatest;
   clauses_hold = all_from_members (clause_true values) (clauses_of (inputs_of s.store.clauses)) (λ lits has. input_holds lits has);
   cube_holds = all_from_members (lit_true values) cube (λ lit has.
@@ -63,7 +63,7 @@ model_of s cube vars values kept trail set vars_are complete whole given = recor
     trues = lits_of s.trail.entries
 
     all_open : All (IsOpenClause trues) (lits_of_each s.store.clauses)
-    all_open = subst (λ (es : List Entry). All (IsOpenClause (lits_of es)) (lits_of_each s.store.clauses)) (up_to_all s.trail.depth s.trail.entries trail.below) complete.each
+    all_open = subst (λ (es : List Entry). All (IsOpenClause (lits_of es)) (lits_of_each s.store.clauses)) (up_to_all s.trail.depth s.trail.entries kept.trail.below) complete.each
 
     clause_holds : (clause : ArenaClause) → Contains s.store.clauses clause → IsTrue (clause_true values (in_order clause.lits))
     clause_holds clause has =

@@ -5,24 +5,22 @@ use Rattle.std.proofs.lemmas.Bool.{cases_lt}
 use Rattle.std.proofs.lemmas.Option.{none-some}
 use Rattle.std.proofs.lemmas.List.{length_push, get_or_push, get_or_append_left, take-append-le, take_at}
 use Rattle.clause_arena.specs.Arena.{ArenaClause, lits_of_each}
-use Rattle.trail_core.specs.Trail.{Entry, no_entry, entry_at, lits_of, up_to}
+use Rattle.trail_core.specs.Trail.{Entry, TrailView, IsTrail, no_entry, entry_at, lits_of, up_to}
 use Rattle.trail_core.specs.UnderTrail.{IsForced, IsFounded, IsComplete, IsOpenClause, HasGrown}
 use Rattle.propagate.specs.Store.{HasSameClauses}
 use Rattle.propagate.proofs.Grown.{founded_push}
 use Rattle.session.specs.OnTrail.{IsForcedAtZero, IsCompleteBelow, IsForCube, IsChoice, IsOnTrail}
-use Rattle.session.specs.Moves.{AreChoices}
 use Rattle.session.proofs.Fronts.{level_at, Ascends, front_of, up_to_is, complete_take, complete_untake, zero_take, cube_take, founded_front, entry_in, front_in}
 use Rattle.session.proofs.Forcing.{forced_same, complete_same, founded_more, zero_more, complete_more}
 
 -- a jump back
-pub back_on_trail : (clauses : List (List ℕ)) (cube : List ℕ) (entries : List Entry) (depth level : ℕ) → Ascends entries → level ≤ depth → IsOnTrail clauses cube entries depth → IsOnTrail clauses cube (up_to level entries) level
-back_on_trail clauses cube entries depth level up le on =
+pub back_on_trail : (clauses : List (List ℕ)) (entries : List Entry) (depth level : ℕ) → Ascends entries → level ≤ depth → IsOnTrail clauses entries depth → IsOnTrail clauses (up_to level entries) level
+back_on_trail clauses entries depth level up le on =
     let (n, front) = front_of entries level up in
-    subst (λ (es : List Entry). IsOnTrail clauses cube es level) (sym (up_to_is entries level n front)) (record {
+    subst (λ (es : List Entry). IsOnTrail clauses es level) (sym (up_to_is entries level n front)) (record {
       founded = founded_front clauses entries depth level n on.founded front le;
       zero = zero_take clauses entries n front.within on.zero;
       below = record { each = λ l lt. complete_take clauses entries n l front.within (record { each = λ k from to. let h = front.high.each k from to in omega (arith, h, lt) }) (on.below.each l (omega (arith, lt, le))) };
-      for_cube = cube_take cube entries n front.within on.for_cube;
     })
 
 -- One more entry.
@@ -49,7 +47,7 @@ zero_push clauses entries entry zero_ok one = record { forced = λ place lt leve
         (subst (λ (es : List Entry). IsForced clauses es entry) (sym (take_at entries (entry ∷ []) place (sym last)))
         (one (ap (λ (e : Entry). e.level) (sym (new_entry entries entry place last)) ∙ level)))
 
-cube_push : (cube : List ℕ) (entries : List Entry) (entry : Entry) → IsForCube cube entries → (entry.reason ≡ None → IsChoice cube (lits_of entries) entry.lit) → IsForCube cube (entries ++ entry ∷ [])
+pub cube_push : (cube : List ℕ) (entries : List Entry) (entry : Entry) → IsForCube cube entries → (entry.reason ≡ None → IsChoice cube (lits_of entries) entry.lit) → IsForCube cube (entries ++ entry ∷ [])
 cube_push cube entries entry for_cube one = record { each = λ place lt above free. at place lt above free (cases_lt place (length entries)) }
   where
     at : (place : ℕ) → place < length (entries ++ entry ∷ []) → 0 < level_at (entries ++ entry ∷ []) place → (entry_at (entries ++ entry ∷ []) place).reason ≡ None → (place < length entries) ⊎ (length entries ≤ place)
@@ -75,19 +73,17 @@ below_push clauses entries entry depth le below = record {
 }
 
 -- a forced literal at the depth
-pub forced_on_trail : (clauses : List (List ℕ)) (cube : List ℕ) (entries : List Entry) (depth : ℕ) (entry : Entry) → IsOnTrail clauses cube entries depth → IsForced clauses entries entry → entry.level ≡ depth → IsOnTrail clauses cube (entries ++ entry ∷ []) depth
-forced_on_trail clauses cube entries depth entry on forced level = record {
+pub forced_on_trail : (clauses : List (List ℕ)) (entries : List Entry) (depth : ℕ) (entry : Entry) → IsOnTrail clauses entries depth → IsForced clauses entries entry → entry.level ≡ depth → IsOnTrail clauses (entries ++ entry ∷ []) depth
+forced_on_trail clauses entries depth entry on forced level = record {
   founded = founded_push clauses entries depth entry on.founded forced level;
   zero = zero_push clauses entries entry on.zero (λ _. forced);
   below = below_push clauses entries entry depth (omega (arith, level)) on.below;
-  for_cube = cube_push cube entries entry on.for_cube (λ free. absurd (none-some forced.id (sym free ∙ forced.reason)));
 }
 
 -- a decision on a new level
-pub decided_on_trail : (clauses : List (List ℕ)) (cube : List ℕ) (entries : List Entry) (depth lit : ℕ) → All (λ e. e.level ≤ depth) entries → IsComplete entries depth clauses
-    → IsChoice cube (lits_of entries) lit → IsOnTrail clauses cube entries depth
-    → IsOnTrail clauses cube (entries ++ record { lit = lit; level = depth + 1; reason = None } ∷ []) (depth + 1)
-decided_on_trail clauses cube entries depth lit low complete allowed on = record {
+pub decided_on_trail : (clauses : List (List ℕ)) (entries : List Entry) (depth lit : ℕ) → All (λ e. e.level ≤ depth) entries → IsComplete entries depth clauses → IsOnTrail clauses entries depth
+    → IsOnTrail clauses (entries ++ record { lit = lit; level = depth + 1; reason = None } ∷ []) (depth + 1)
+decided_on_trail clauses entries depth lit low complete on = record {
   founded = record {
     begun = λ l pos within. begun_at l pos within (cases_lt depth l);
     first = λ place lt above alone. first_at place lt above alone (cases_lt place (length entries));
@@ -95,7 +91,6 @@ decided_on_trail clauses cube entries depth lit low complete allowed on = record
   };
   zero = zero_push clauses entries entry on.zero (λ zero_is. absurd (omega (arith, zero_is)));
   below = record { each = λ level lt. below_at level lt (cases_lt level depth) };
-  for_cube = cube_push cube entries entry on.for_cube (λ _. allowed);
 }
   where
     entry : Entry
@@ -144,27 +139,18 @@ decided_on_trail clauses cube entries depth lit low complete allowed on = record
         (subst (λ (es : List Entry). IsComplete es level clauses) (sym (take_at entries (entry ∷ []) (length entries) refl))
         (elim which [ inl lower ↦ on.below.each level lower | inr here ↦ subst (λ n. IsComplete entries n clauses) (omega (arith, here, lt)) complete ]))
 
--- a literal of level 0 is no decision
-pub choices_of : (clauses : List (List ℕ)) (cube : List ℕ) (entries : List Entry) (depth : ℕ) → IsOnTrail clauses cube entries depth → AreChoices cube entries
-choices_of clauses cube entries depth on place lt free = at (cases_lt 0 (level_at entries place))
-  where
-    at : (0 < level_at entries place) ⊎ (level_at entries place ≤ 0) → IsChoice cube (lits_of (take place entries)) (entry_at entries place).lit
-    at (inl above) = on.for_cube.each place lt above free
-    at (inr low) = let forced = on.zero.forced place lt (omega (arith, low)) in absurd (none-some forced.id (sym free ∙ forced.reason))
-
 -- a new clause that is open at each level below the depth
-pub more_on_trail : (clauses : List (List ℕ)) (clause cube : List ℕ) (entries : List Entry) (depth : ℕ) → ((level : ℕ) → level < depth → IsOpenClause (lits_of (up_to level entries)) clause) → IsOnTrail clauses cube entries depth → IsOnTrail (clauses ++ clause ∷ []) cube entries depth
-more_on_trail clauses clause cube entries depth each on = record {
+pub more_on_trail : (clauses : List (List ℕ)) (clause : List ℕ) (entries : List Entry) (depth : ℕ) → ((level : ℕ) → level < depth → IsOpenClause (lits_of (up_to level entries)) clause) → IsOnTrail clauses entries depth → IsOnTrail (clauses ++ clause ∷ []) entries depth
+more_on_trail clauses clause entries depth each on = record {
   founded = founded_more clauses clause entries depth on.founded;
   zero = zero_more clauses clause entries on.zero;
   below = record { each = λ level lt. complete_more clauses clause entries level (on.below.each level lt) (each level lt) };
-  for_cube = on.for_cube;
 }
 
 -- propagation
-pub propagated_on_trail : (olds news : List ArenaClause) (cube : List ℕ) (old new : List Entry) (depth : ℕ) → HasSameClauses olds news → HasGrown (lits_of_each news) depth old new → IsFounded (lits_of_each news) new depth
-    → IsOnTrail (lits_of_each olds) cube old depth → IsOnTrail (lits_of_each news) cube new depth
-propagated_on_trail olds news cube old new depth same grown founded on = record {
+pub propagated_on_trail : (olds news : List ArenaClause) (old new : List Entry) (depth : ℕ) → HasSameClauses olds news → HasGrown (lits_of_each news) depth old new → IsFounded (lits_of_each news) new depth
+    → IsOnTrail (lits_of_each olds) old depth → IsOnTrail (lits_of_each news) new depth
+propagated_on_trail olds news old new depth same grown founded on = record {
   founded = founded;
   zero = record { forced = λ place lt level. zero_at place lt level (cases_lt place n) };
   below = record {
@@ -172,7 +158,6 @@ propagated_on_trail olds news cube old new depth same grown founded on = record 
         (record { each = λ k from to. let here = grown.level k from to in omega (arith, here, lt) })
         (subst (λ (es : List Entry). IsComplete es level (lits_of_each news)) (sym grown.before) (complete_same olds news old level same (on.below.each level lt)));
   };
-  for_cube = record { each = λ place lt above free. cube_at place lt above free (cases_lt place n) };
 }
   where
     n : ℕ
@@ -191,10 +176,31 @@ propagated_on_trail olds news cube old new depth same grown founded on = record 
         (forced_same olds news (take place old) (entry_at old place) same (on.zero.forced place before (ap (λ (e : Entry). e.level) (sym (entry_same place before)) ∙ level))))
     zero_at place lt level (inr behind) = grown.forced place behind lt
 
-    cube_at : (place : ℕ) → place < length new → 0 < level_at new place → (entry_at new place).reason ≡ None → (place < n) ⊎ (n ≤ place) → IsChoice cube (lits_of (take place new)) (entry_at new place).lit
+-- What the cube's rounds add to the trail stays where it goes back, where entries with reasons come, and begins at level 0.
+pub cube_back : (cube : List ℕ) (entries : List Entry) (level : ℕ) → Ascends entries → IsForCube cube entries → IsForCube cube (up_to level entries)
+cube_back cube entries level up for_cube =
+    let (n, front) = front_of entries level up in
+    subst (IsForCube cube) (sym (up_to_is entries level n front)) (cube_take cube entries n front.within for_cube)
+
+pub cube_forced : (clauses : List (List ℕ)) (cube : List ℕ) (entries : List Entry) (entry : Entry) → IsForced clauses entries entry → IsForCube cube entries → IsForCube cube (entries ++ entry ∷ [])
+cube_forced clauses cube entries entry forced for_cube = cube_push cube entries entry for_cube (λ free. absurd (none-some forced.id (sym free ∙ forced.reason)))
+
+pub cube_grown : (clauses : List (List ℕ)) (cube : List ℕ) (old new : List Entry) (depth : ℕ) → HasGrown clauses depth old new → IsForCube cube old → IsForCube cube new
+cube_grown clauses cube old new depth grown for_cube = record { each = λ place lt above free. cube_at place lt above free (cases_lt place (length old)) }
+  where
+    entry_same : (place : ℕ) → place < length old → entry_at new place ≡ entry_at old place
+    entry_same place lt = sym (entry_in new (length old) place lt) ∙ ap (λ (es : List Entry). entry_at es place) grown.before
+
+    front_same : (place : ℕ) → place ≤ length old → take place new ≡ take place old
+    front_same place le = sym (front_in new (length old) place le) ∙ ap (take place) grown.before
+
+    cube_at : (place : ℕ) → place < length new → 0 < level_at new place → (entry_at new place).reason ≡ None → (place < length old) ⊎ (length old ≤ place) → IsChoice cube (lits_of (take place new)) (entry_at new place).lit
     cube_at place lt above free (inl before) =
         let here = entry_same place before in
         subst (λ (es : List Entry). IsChoice cube (lits_of es) (entry_at new place).lit) (sym (front_same place (omega (arith, before))))
         (subst (λ (e : Entry). IsChoice cube (lits_of (take place old)) e.lit) (sym here)
-        (on.for_cube.each place before (subst (λ (e : Entry). 0 < e.level) here above) (ap (λ (e : Entry). e.reason) (sym here) ∙ free)))
+        (for_cube.each place before (subst (λ (e : Entry). 0 < e.level) here above) (ap (λ (e : Entry). e.reason) (sym here) ∙ free)))
     cube_at place lt above free (inr behind) = absurd (none-some (grown.forced place behind lt).id (sym free ∙ (grown.forced place behind lt).reason))
+
+pub cube_at_zero : (trail : TrailView) (cube : List ℕ) → IsTrail trail → trail.depth ≡ 0 → IsForCube cube trail.entries
+cube_at_zero trail cube is zero = record { each = λ place lt above. (let low = is.below place no_entry lt in absurd (omega (arith, low, zero, above))) }

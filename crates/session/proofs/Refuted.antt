@@ -33,7 +33,7 @@ refuted_by inputs part clause negates follows values all =
     (All-from_members (Contains (map opposite part)) clause (λ lit has. (Contains-negations part (map opposite part) refl lit).1 ((negates lit).0 has)))
     (follows values all)
 
-pub refutation_from : (s : Search) (cube part : List ℕ) (number : ℕ) (step : Step) → IsSearching s cube → IsStep s.steps.items number (known_of step) → All (Contains cube) part → ((lit : ℕ) → Contains step.clause lit ↔ Contains part (opposite lit))
+pub refutation_from : (s : Search) (cube part : List ℕ) (number : ℕ) (step : Step) → IsSearching s → IsStep s.steps.items number (known_of step) → All (Contains cube) part → ((lit : ℕ) → Contains step.clause lit ↔ Contains part (opposite lit))
     → IsRefutation (inputs_of s.store.clauses) s.steps.items cube part number
 refutation_from s cube part number step kept is within negates = record {
   right = record {
@@ -53,20 +53,20 @@ part_within trail cube part lit is for_cube whole stands fails = All-from_member
     at other (inl same) = subst (Contains cube) (sym same) stands
     at other (inr d) = elim (for_cube.each d.place d.at.within d.level d.free) [
       | inl of_cube ↦ subst (Contains cube) d.is of_cube
-      | inr free ↦ absurd (is.consistent lit (true_before trail.entries d.place lit d.at.within (free.holds lit stands)) fails.stands)
+      | inr holds ↦ absurd (is.consistent lit (true_before trail.entries d.place lit d.at.within (holds lit stands)) fails.stands)
     ]
 
 -- at level 0 every false literal's opposite is known
-pub zero_opposites : (s : Search) (cube lits : List ℕ) → IsSearching s cube → IsTrail s.trail → s.trail.depth ≡ 0 → s.named ≡ length s.trail.entries → IsFalseClause (lits_of s.trail.entries) lits → KnowsOpposites (table_of s) s.units.items s.tags.items None lits
-zero_opposites s cube lits kept is zero all fails lit has _ =
+pub zero_opposites : (s : Search) (lits : List ℕ) → IsSearching s → s.trail.depth ≡ 0 → s.named ≡ length s.trail.entries → IsFalseClause (lits_of s.trail.entries) lits → KnowsOpposites (table_of s) s.units.items s.tags.items None lits
+zero_opposites s lits kept zero all fails lit has _ =
     let falsified = All-contains (IsFalseLit (lits_of s.trail.entries)) lits lit fails.each has in
     let (place, lt, here) = place_of_true s.trail.entries (opposite lit) falsified.stands in
     let name = kept.named.known place (omega (arith, lt, all)) in
     subst (λ var. IsNameOf (table_of s) (unit_of s.units.items var) (opposite lit ∷ []) (tag_of_unit s.tags.items var)) (ap variable here ∙ variable-opposite lit)
     (subst (λ x. IsNameOf (table_of s) (unit_of s.units.items (variable (entry_at s.trail.entries place).lit)) (x ∷ []) (tag_of_unit s.tags.items (variable (entry_at s.trail.entries place).lit))) here name)
 
-pub zero_units : (s : Search) (cube : List ℕ) → IsSearching s cube → s.named ≡ length s.trail.entries → KnowsUnits (table_of s) s.trail.entries s.units.items s.tags.items
-zero_units s cube kept all place lt zero = kept.named.known place (omega (arith, lt, all))
+pub zero_units : (s : Search) → IsSearching s → s.named ≡ length s.trail.entries → KnowsUnits (table_of s) s.trail.entries s.units.items s.tags.items
+zero_units s kept all place lt zero = kept.named.known place (omega (arith, lt, all))
 
 -- the empty clause negates the empty part
 pub nothing_negated : (clause part : List ℕ) → clause ≡ [] → part ≡ [] → (lit : ℕ) → Contains clause lit ↔ Contains part (opposite lit)

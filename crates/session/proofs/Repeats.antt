@@ -36,8 +36,8 @@ apart held (one ∷ more) new = AllPairs-cons (λ clause other. clause ≢ other
     (apart (held ++ one ∷ []) more new.1)
 
 -- each held clause is a set of literals
-held_proper : (s : Search) (cube : List ℕ) (bound : ℕ) (one : Known) → IsSearching s cube → Contains (held_of s.store.clauses) one → (IsTautology one.clause → ⊥) → greatest_of one.clause ≤ bound → IsProperClause bound one.clause
-held_proper s cube bound one kept has proper low =
+held_proper : (s : Search) (bound : ℕ) (one : Known) → IsSearching s → Contains (held_of s.store.clauses) one → (IsTautology one.clause → ⊥) → greatest_of one.clause ≤ bound → IsProperClause bound one.clause
+held_proper s bound one kept has proper low =
     let (clause, clause_in, is) = Contains-from_map known_clause s.store.clauses one has in
     let lits = All-contains (λ (c : ArenaClause). All IsLit c.lits) s.store.clauses clause kept.stock.lits clause_in in
     let same = ap (λ (x : Known). x.clause) is in
@@ -50,12 +50,12 @@ held_proper s cube bound one kept has proper low =
       proper = proper;
     }
 
-pub few_learnt : (old new : Search) (cube : List ℕ) (more : List Known) (last : List ℕ) → IsSearching new cube → Learns (solver_of old) (solver_of new) more last → length more ≤ 3 ^ greatest_of_all (clauses_of (inputs_of old.store.clauses))
-few_learnt old new cube more last kept l =
+pub few_learnt : (old new : Search) (more : List Known) (last : List ℕ) → IsSearching new → Learns (solver_of old) (solver_of new) more last → length more ≤ 3 ^ greatest_of_all (clauses_of (inputs_of old.store.clauses))
+few_learnt old new more last kept l =
     let bound = greatest_of_all (clauses_of (inputs_of old.store.clauses)) in
     let each = All-map (IsProperClause bound) (λ (one : Known). one.clause) more (All-from_members (λ (one : Known). IsProperClause bound one.clause) more (λ one has.
     let p = All-contains (λ (x : Known). (IsTautology x.clause → ⊥) × (greatest_of x.clause ≤ bound)) more one l.proper has in
-    held_proper new cube bound one kept (subst (λ (xs : List Known). Contains xs one) (sym l.held) (Contains-append_right (held_of old.store.clauses) more one has)) p.0 p.1)) in
+    held_proper new bound one kept (subst (λ (xs : List Known). Contains xs one) (sym l.held) (Contains-append_right (held_of old.store.clauses) more one has)) p.0 p.1)) in
     subst (λ n. n ≤ 3 ^ bound) (length-map more (λ (one : Known). one.clause)) (few bound (clauses_of more) each (apart (held_of old.store.clauses) more l.fresh))
 
 named_append : (steps : List Step) (names names' : List ℕ) (more more' : List Known) → AreNamed steps names more → AreNamed steps names' more' → AreNamed steps (names ++ names') (more ++ more')

@@ -11,13 +11,13 @@ use Rattle.sat_base.specs.declared.origins.Ref.TheVariants.{Input}
 use Rattle.sat_base.proofs.Members.{All-from_members}
 use Rattle.trace_core.specs.Known.{Known}
 use Rattle.clause_arena.specs.Arena.{ArenaClause, lits_of_each}
-use Rattle.trail_core.specs.Trail.{Entry, TrailView, IsTrail, entry_at, no_entry}
+use Rattle.trail_core.specs.Trail.{Entry, TrailView, IsTrail, entry_at, no_entry, lits_of}
 use Rattle.propagate.specs.Store.{StoreView, AreWithin, AreAllWithin}
 use Rattle.analyze.specs.Table.{IsNameOf, unit_of, tag_of_unit}
 use Rattle.session.specs.declared.search.Search.{Search}
 use Rattle.session.specs.Solver.{inputs_of, held_of, packet_at, last_step_of, named_by, IsStep, known_clause, clauses_of, is_input}
 use Rattle.session.specs.Stock.{IsStocked}
-use Rattle.session.specs.OnTrail.{IsOnTrail}
+use Rattle.session.specs.OnTrail.{AreAssigned, IsOnTrail}
 use Rattle.session.specs.Units.{IsNamed}
 use Rattle.session.specs.Searching.{IsSearching, packets_of, table_of}
 use Rattle.trace_core.specs.declared.derivation.Step.{Step}
@@ -26,6 +26,7 @@ use Rattle.session.proofs.InOrder.{in_order-itself}
 use Rattle.session.proofs.Stocked.{stock_input, named_with_input}
 use Rattle.session.proofs.Reasons.{named_stays}
 use Rattle.session.proofs.OnTrails.{more_on_trail}
+use Rattle.session.proofs.Cursor.{none_assigned}
 use Rattle.session.proofs.UpTo.{below_greatest}
 
 -- the greatest variable, literal by literal
@@ -52,12 +53,12 @@ longer old new front = (let size = ap length front in omega (arith, size, length
 same_item : {X : Type 0} (old new : List X) (i : ℕ) (d : X) → take (length old) new ≡ old → i < length old → get_or new i d ≡ get_or old i d
 same_item old new i d front lt = sym (get_or-take (length old) new i d lt) ∙ ap (λ xs. get_or xs i d) front
 
-pub search_reserved : (s : Search) (cube : List ℕ) (store : StoreView) (scratch : ℕ) (units : Vec Ref Global) (tags : Vec ℕ Global) (trail : TrailView) → IsSearching s cube → IsTrail s.trail
+pub search_reserved : (s : Search) (store : StoreView) (scratch : ℕ) (units : Vec Ref Global) (tags : Vec ℕ Global) (trail : TrailView) → IsSearching s → IsTrail trail
     → store.clauses ≡ s.store.clauses → trail.entries ≡ s.trail.entries → trail.depth ≡ s.trail.depth → s.trail.vars ≤ trail.vars
     → trail.vars ≤ store.vars → trail.vars ≤ scratch → trail.vars ≤ length units.items → trail.vars ≤ length tags.items
     → take (length s.units.items) units.items ≡ s.units.items → take (length s.tags.items) tags.items ≡ s.tags.items
-    → IsSearching (record s { store = store; scratch = scratch; units = units; tags = tags; trail = trail }) cube
-search_reserved s cube store scratch units tags trail kept is clauses entries depth more in_store in_scratch in_units in_tags units_front tags_front = record {
+    → IsSearching (record s { store = store; scratch = scratch; units = units; tags = tags; trail = trail })
+search_reserved s store scratch units tags trail kept is clauses entries depth more in_store in_scratch in_units in_tags units_front tags_front = record {
   stock = subst (λ cs. IsStocked cs (packets_of s) s.steps.items s.bound) (sym clauses) kept.stock;
   room = record {
     over = subst (λ cs. AreAllWithin s.greatest cs) (sym clauses) kept.room.over;
@@ -72,21 +73,23 @@ search_reserved s cube store scratch units tags trail kept is clauses entries de
     inputs = kept.counted.inputs ∙ ap (λ cs. length (inputs_of cs)) (sym clauses);
     learnt = subst (λ cs. All (λ number. (one : Known) × IsStep s.steps.items number one × Contains (held_of cs) one) s.learnt.items) (sym clauses) kept.counted.learnt;
   };
-  on = subst (λ cs. IsOnTrail (lits_of_each cs) cube trail.entries trail.depth) (sym clauses)
-      (subst (λ (es : List Entry). IsOnTrail (lits_of_each s.store.clauses) cube es trail.depth) (sym entries) (subst (IsOnTrail (lits_of_each s.store.clauses) cube s.trail.entries) (sym depth) kept.on));
+  on = subst (λ cs. IsOnTrail (lits_of_each cs) trail.entries trail.depth) (sym clauses)
+      (subst (λ (es : List Entry). IsOnTrail (lits_of_each s.store.clauses) es trail.depth) (sym entries) (subst (IsOnTrail (lits_of_each s.store.clauses) s.trail.entries) (sym depth) kept.on));
   named = subst (λ cs. IsNamed (named_by (inputs_of cs) (packets_of s) s.steps.items) trail.entries units.items tags.items s.named) (sym clauses)
       (subst (λ (es : List Entry). IsNamed (table_of s) es units.items tags.items s.named) (sym entries) (record {
         within = kept.named.within;
         zero = kept.named.zero;
         known = λ place lt. known_at place lt;
       }));
+  trail = is;
+  cursor = subst (λ (es : List Entry). AreAssigned (lits_of es) s.cursor) (sym entries) kept.cursor;
   all_named = λ deep place lt bottom. kept.all_named (omega (arith, deep, depth)) place (omega (arith, lt, ap length entries)) (ap (λ (es : List Entry). (entry_at es place).level) (sym entries) ∙ bottom);
 }
   where
     known_at : (place : ℕ) → place < s.named → IsNameOf (table_of s) (unit_of units.items (variable (entry_at s.trail.entries place).lit)) ((entry_at s.trail.entries place).lit ∷ []) (tag_of_unit tags.items (variable (entry_at s.trail.entries place).lit))
     known_at place lt =
         let var : ℕ = variable (entry_at s.trail.entries place).lit in
-        let r = is.reserved place no_entry (omega (arith, lt, kept.named.within)) in
+        let r = kept.trail.reserved place no_entry (omega (arith, lt, kept.named.within)) in
         subst (λ name. IsNameOf (table_of s) name ((entry_at s.trail.entries place).lit ∷ []) (tag_of_unit tags.items var)) (sym (same_item s.units.items units.items (var - 1) (Input 0) units_front (omega (arith, r.0, r.1, kept.room.units))))
         (subst (λ tag. IsNameOf (table_of s) (unit_of s.units.items var) ((entry_at s.trail.entries place).lit ∷ []) tag) (sym (same_item s.tags.items tags.items (var - 1) 0 tags_front (omega (arith, r.0, r.1, kept.room.tags)))) (kept.named.known place lt))
 
@@ -99,10 +102,10 @@ inputs_more clauses clauses' clause tag number set added =
     ∙ ap (λ lits. inputs_of clauses ++ record { clause = lits; tag = tag } ∷ []) (in_order-itself clause set.ascending)
 
 -- an input comes to a search at level 0
-pub search_input : (s : Search) (cube clause : List ℕ) (store : StoreView) (tag number greatest most : ℕ) → IsSearching s cube → s.trail.depth ≡ 0 → IsLitSet clause → s.bound ≤ tag → number ≡ s.inputs + 1 → greatest ≡ greatest_of clause → most ≡ max s.greatest greatest → greatest ≤ s.trail.vars
+pub search_input : (s : Search) (clause : List ℕ) (store : StoreView) (tag number greatest most : ℕ) → IsSearching s → s.trail.depth ≡ 0 → IsLitSet clause → s.bound ≤ tag → number ≡ s.inputs + 1 → greatest ≡ greatest_of clause → most ≡ max s.greatest greatest → greatest ≤ s.trail.vars
     → store.clauses ≡ s.store.clauses ++ record { lits = clause; tag = tag; origin = Input number } ∷ [] → store.vars ≡ s.store.vars
-    → IsSearching (record s { store = store; greatest = most; inputs = number; bound = tag }) cube
-search_input s cube clause store tag number greatest most kept zero set le last greatest_is most_is within added vars_are = record {
+    → IsSearching (record s { store = store; greatest = most; inputs = number; bound = tag })
+search_input s clause store tag number greatest most kept zero set le last greatest_is most_is within added vars_are = record {
   stock = subst (λ cs. IsStocked cs (packets_of s) s.steps.items tag) (sym added) (stock_input s.store.clauses (packets_of s) s.steps.items s.bound tag number clause kept.stock le (omega (arith, last, kept.counted.inputs)) set.each set.ascending);
   room = record {
     over = subst (λ cs. AreAllWithin most cs) (sym added) (All-push (λ (one : ArenaClause). AreWithin most one.lits) s.store.clauses input
@@ -123,10 +126,12 @@ search_input s cube clause store tag number greatest most kept zero set le last 
         (All-under (λ n. (x : Known) × IsStep s.steps.items n x × Contains (held_of s.store.clauses) x) (λ n. (x : Known) × IsStep s.steps.items n x × Contains (held_of s.store.clauses ++ one ∷ []) x) s.learnt.items
         (λ n (x, is, there). (x, is, Contains-append_left (held_of s.store.clauses) (one ∷ []) x there)) kept.counted.learnt);
   };
-  on = subst (λ lits. IsOnTrail lits cube s.trail.entries s.trail.depth) (sym (ap lits_of_each added ∙ map_push (λ (c : ArenaClause). c.lits) s.store.clauses input))
-      (more_on_trail (lits_of_each s.store.clauses) clause cube s.trail.entries s.trail.depth (λ level lt. absurd (omega (arith, lt, zero))) kept.on);
+  on = subst (λ lits. IsOnTrail lits s.trail.entries s.trail.depth) (sym (ap lits_of_each added ∙ map_push (λ (c : ArenaClause). c.lits) s.store.clauses input))
+      (more_on_trail (lits_of_each s.store.clauses) clause s.trail.entries s.trail.depth (λ level lt. absurd (omega (arith, lt, zero))) kept.on);
   named = subst (λ xs. IsNamed (named_by xs (packets_of s) s.steps.items) s.trail.entries s.units.items s.tags.items s.named) (sym inputs)
       (named_stays (table_of s) (named_by (inputs_of s.store.clauses ++ one ∷ []) (packets_of s) s.steps.items) s.trail.entries s.units.items s.tags.items s.named (λ name known is. named_with_input (inputs_of s.store.clauses) one (packets_of s) s.steps.items name known is) kept.named);
+  trail = kept.trail;
+  cursor = kept.cursor;
   all_named = λ deep. absurd (omega (arith, deep, zero));
 }
   where
@@ -154,8 +159,8 @@ none_known packets place number one none is = at (place == 0) (subst (λ (xs : L
     at false is = none-some one is
 
 -- a search without inputs
-pub new_search : (s : Search) (cube : List ℕ) → s.store.clauses ≡ [] → s.trail.entries ≡ [] → s.trail.depth ≡ 0 → s.trail.vars ≡ 0 → s.packets.items ≡ [] → s.steps.items ≡ [] → s.learnt.items ≡ [] → s.named ≡ 0 → s.greatest ≡ 0 → s.inputs ≡ 0 → IsSearching s cube
-new_search s cube clauses entries depth vars packets steps learnt named greatest inputs = record {
+pub new_search : (s : Search) → s.store.clauses ≡ [] → s.trail.entries ≡ [] → s.trail.depth ≡ 0 → s.trail.vars ≡ 0 → s.packets.items ≡ [] → s.steps.items ≡ [] → s.learnt.items ≡ [] → s.named ≡ 0 → s.cursor ≡ 0 → s.greatest ≡ 0 → s.inputs ≡ 0 → IsSearching s
+new_search s clauses entries depth vars packets steps learnt named cursor greatest inputs = record {
   stock = subst (λ cs. IsStocked cs (packets_of s) s.steps.items s.bound) (sym clauses) (subst (λ xs. IsStocked [] (packets_of s) xs s.bound) (sym steps) (record {
     lits = λ i d lt. absurd (omega (arith, lt));
     named = λ i d lt. absurd (omega (arith, lt));
@@ -185,27 +190,23 @@ new_search s cube clauses entries depth vars packets steps learnt named greatest
     founded = record { begun = λ level pos le. absurd (omega (arith, pos, le, depth)); first = λ place lt. absurd (none place lt); other = λ place k lt. absurd (none place lt) };
     zero = record { forced = λ place lt. absurd (none place lt) };
     below = record { each = λ level lt. absurd (omega (arith, lt, depth)) };
-    for_cube = record { each = λ place lt. absurd (none place lt) };
   };
   named = record { within = omega (arith, named); zero = λ place lt. absurd (omega (arith, lt, named)); known = λ place lt. absurd (omega (arith, lt, named)) };
+  trail = record {
+    once = λ var i j at_i at_j. absurd (none i at_i.within);
+    consistent = λ lit has. absurd (nothing lit has);
+    ascending = λ i j le lt. absurd (none j lt);
+    below = λ i d lt. absurd (none i lt);
+    reserved = λ i d lt. absurd (none i lt);
+    few = omega (arith, ap length entries, vars);
+    shallow = omega (arith, depth, vars);
+  };
+  cursor = subst (AreAssigned (lits_of s.trail.entries)) (sym cursor) (none_assigned (lits_of s.trail.entries));
   all_named = λ deep. absurd (omega (arith, deep, depth));
 }
   where
     none : (place : ℕ) → place < length s.trail.entries → ⊥
     none place lt = omega (arith, lt, ap length entries)
 
--- at level 0 a search serves every cube
-pub for_any_cube : (s : Search) (cube other : List ℕ) → IsSearching s cube → IsTrail s.trail → s.trail.depth ≡ 0 → IsSearching s other
-for_any_cube s cube other kept is zero = record {
-  stock = kept.stock;
-  room = kept.room;
-  counted = kept.counted;
-  on = record {
-    founded = kept.on.founded;
-    zero = kept.on.zero;
-    below = kept.on.below;
-    for_cube = record { each = λ place lt above. (let low = is.below place no_entry lt in absurd (omega (arith, low, zero, above))) };
-  };
-  named = kept.named;
-  all_named = kept.all_named;
-}
+    nothing : (lit : ℕ) → Contains (lits_of s.trail.entries) lit → ⊥
+    nothing lit has = let (k, lt, e) = subst (λ (es : List Entry). Contains (lits_of es) lit) entries has in omega (arith, lt)

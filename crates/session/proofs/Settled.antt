@@ -9,7 +9,7 @@ use Rattle.sat_base.proofs.Members.{All-from_members}
 use Rattle.trace_core.specs.Known.{Known}
 use Rattle.trace_core.specs.declared.derivation.Step.{Step}
 use Rattle.clause_arena.specs.Arena.{ArenaClause, clause_at, no_clause, lits_of_each}
-use Rattle.trail_core.specs.Trail.{Entry, TrailView, entry_at}
+use Rattle.trail_core.specs.Trail.{Entry, TrailView, IsTrail, entry_at}
 use Rattle.trail_core.specs.UnderTrail.{IsFounded, HasGrown}
 use Rattle.propagate.specs.Store.{StoreView, AreWithin, AreAllWithin, HasSameClauses}
 use Rattle.analyze.specs.Table.{IsNameOf, unit_of, tag_of_unit}
@@ -17,14 +17,15 @@ use Rattle.session.specs.declared.search.Search.{Search}
 use Rattle.session.specs.Solver.{inputs_of, held_of, named_by, IsStep, clauses_of}
 use Rattle.session.specs.OnTrail.{IsOnTrail}
 use Rattle.session.specs.Units.{IsNamed}
-use Rattle.session.specs.Searching.{IsSearching, packets_of, HasUnitsMore, AreAllNamed, IsSameSolver, table_of}
+use Rattle.session.specs.Searching.{IsSearching, packets_of, HasUnitsMore, AreAllNamed, table_of}
 use Rattle.session.specs.Fronts.{IsFront}
 use Rattle.session.proofs.SameClauses.{AreOneByOne, one_by_one, inputs_same, held_same, stock_same}
 use Rattle.session.proofs.OnTrails.{propagated_on_trail}
+use Rattle.session.proofs.Cursor.{assigned_grown}
 use Rattle.session.proofs.Fronts.{level_at, entry_in}
 
-pub pairs_of : (s : Search) (cube : List ℕ) (store : StoreView) → IsSearching s cube → HasSameClauses s.store.clauses store.clauses → AreOneByOne s.store.clauses store.clauses
-pairs_of s cube store kept same = one_by_one s.store.clauses store.clauses kept.stock.lits same.count same.each
+pub pairs_of : (s : Search) (store : StoreView) → IsSearching s → HasSameClauses s.store.clauses store.clauses → AreOneByOne s.store.clauses store.clauses
+pairs_of s store kept same = one_by_one s.store.clauses store.clauses kept.stock.lits same.count same.each
 
 within_same : (bound : ℕ) (olds news : List ArenaClause) → HasSameClauses olds news → AreAllWithin bound olds → AreAllWithin bound news
 within_same bound olds news same all = All-from_get_or (λ (clause : ArenaClause). AreWithin bound clause.lits) news no_clause (λ id lt.
@@ -33,10 +34,10 @@ within_same bound olds news same all = All-from_get_or (λ (clause : ArenaClause
     All-contains (λ x. variable x ≤ bound) (clause_at olds id).lits lit (All-get_or (λ (clause : ArenaClause). AreWithin bound clause.lits) olds id no_clause was all)
     (All-contains (Contains (clause_at olds id).lits) (clause_at news id).lits lit (same.each id was).no_more has)))
 
-pub search_propagated : (s : Search) (cube : List ℕ) (store : StoreView) (trail : TrailView) → IsSearching s cube → HasSameClauses s.store.clauses store.clauses → store.vars ≡ s.store.vars
-    → HasGrown (lits_of_each store.clauses) s.trail.depth s.trail.entries trail.entries → IsFounded (lits_of_each store.clauses) trail.entries s.trail.depth → trail.depth ≡ s.trail.depth → trail.vars ≡ s.trail.vars
-    → IsSearching (record s { store = store; trail = trail }) cube
-search_propagated s cube store trail kept same store_vars grown founded depth_is vars_are = record {
+pub search_propagated : (s : Search) (store : StoreView) (trail : TrailView) → IsSearching s → HasSameClauses s.store.clauses store.clauses → store.vars ≡ s.store.vars
+    → HasGrown (lits_of_each store.clauses) s.trail.depth s.trail.entries trail.entries → IsFounded (lits_of_each store.clauses) trail.entries s.trail.depth → trail.depth ≡ s.trail.depth → trail.vars ≡ s.trail.vars → IsTrail trail
+    → IsSearching (record s { store = store; trail = trail })
+search_propagated s store trail kept same store_vars grown founded depth_is vars_are is = record {
   stock = stock_same s.store.clauses store.clauses (packets_of s) s.steps.items s.bound same kept.stock;
   room = record {
     over = within_same s.greatest s.store.clauses store.clauses same kept.room.over;
@@ -51,18 +52,20 @@ search_propagated s cube store trail kept same store_vars grown founded depth_is
     inputs = kept.counted.inputs ∙ ap length inputs;
     learnt = subst (λ held. All (λ number. (one : Known) × IsStep s.steps.items number one × Contains held one) s.learnt.items) (held_same s.store.clauses store.clauses pairs) kept.counted.learnt;
   };
-  on = subst (λ depth. IsOnTrail (lits_of_each store.clauses) cube trail.entries depth) (sym depth_is)
-      (propagated_on_trail s.store.clauses store.clauses cube s.trail.entries trail.entries s.trail.depth same grown founded kept.on);
+  on = subst (λ depth. IsOnTrail (lits_of_each store.clauses) trail.entries depth) (sym depth_is)
+      (propagated_on_trail s.store.clauses store.clauses s.trail.entries trail.entries s.trail.depth same grown founded kept.on);
   named = subst (λ xs. IsNamed (named_by xs (packets_of s) s.steps.items) trail.entries s.units.items s.tags.items s.named) inputs (record {
     within = omega (arith, kept.named.within, grown.longer);
     zero = λ place lt. ap (λ (e : Entry). e.level) (old_at place lt) ∙ kept.named.zero place lt;
     known = λ place lt. subst (λ (e : Entry). IsNameOf (table_of s) (unit_of s.units.items (variable e.lit)) (e.lit ∷ []) (tag_of_unit s.tags.items (variable e.lit))) (sym (old_at place lt)) (kept.named.known place lt);
   });
+  trail = is;
+  cursor = assigned_grown (lits_of_each store.clauses) s.trail.depth s.cursor s.trail.entries trail.entries grown kept.cursor;
   all_named = λ deep place lt zero. all_at deep place lt zero (cases_lt place (length s.trail.entries));
 }
   where
     pairs : AreOneByOne s.store.clauses store.clauses
-    pairs = pairs_of s cube store kept same
+    pairs = pairs_of s store kept same
 
     inputs : inputs_of s.store.clauses ≡ inputs_of store.clauses
     inputs = inputs_same s.store.clauses store.clauses pairs
@@ -77,72 +80,15 @@ search_propagated s cube store trail kept same store_vars grown founded depth_is
     all_at deep place lt zero (inl old) = kept.all_named (omega (arith, deep, depth_is)) place old (ap (λ (e : Entry). e.level) (sym (was_at place old)) ∙ zero)
     all_at deep place lt zero (inr new) = let here = grown.level place new lt in absurd (omega (arith, here, zero, deep, depth_is))
 
--- the same solver
+pub all_named_deep : (s : Search) → IsSearching s → (s.trail.depth ≡ 0 → ⊥) → AreAllNamed s
+all_named_deep s kept deep = record { each = kept.all_named (omega (arith, deep)) }
+
+pub all_named_zero : (s : Search) → s.named ≡ length s.trail.entries → AreAllNamed s
+all_named_zero s all = record { each = λ place lt zero. omega (arith, lt, all) }
+
+-- fronts of lists
 pub same_front : {X : Type 0} (old : List X) → IsFront old old
 same_front old = record { more = []; is = sym (append-nil old) }
 
 pub front_twice : {X : Type 0} (old mid new : List X) → IsFront old mid → IsFront mid new → IsFront old new
 front_twice {X} old mid new a b = record { more = a.more ++ b.more; is = b.is ∙ ap (λ (xs : List X). xs ++ b.more) a.is ∙ append_assoc old a.more b.more }
-
-pub same_twice : (old mid new : Search) → IsSameSolver old mid → IsSameSolver mid new → IsSameSolver old new
-same_twice old mid new a b = record {
-  inputs = b.inputs ∙ a.inputs;
-  held = b.held ∙ a.held;
-  learnt = b.learnt ∙ a.learnt;
-  steps = front_twice old.steps.items mid.steps.items new.steps.items a.steps b.steps;
-  numbers = (b.numbers.0 ∙ a.numbers.0, b.numbers.1 ∙ a.numbers.1, b.numbers.2 ∙ a.numbers.2);
-  packets = b.packets ∙ a.packets;
-  vars = b.vars ∙ a.vars;
-}
-
-pub same_propagated : (s : Search) (cube : List ℕ) (store : StoreView) (trail : TrailView) → IsSearching s cube → HasSameClauses s.store.clauses store.clauses → trail.vars ≡ s.trail.vars → IsSameSolver s (record s { store = store; trail = trail })
-same_propagated s cube store trail kept same vars_are = record {
-  inputs = sym (inputs_same s.store.clauses store.clauses (pairs_of s cube store kept same));
-  held = sym (held_same s.store.clauses store.clauses (pairs_of s cube store kept same));
-  learnt = refl;
-  steps = same_front s.steps.items;
-  numbers = (refl, refl, refl);
-  packets = refl;
-  vars = vars_are;
-}
-
--- unit clauses that got their names
-pub same_named : (s new : Search) → new ≡ record s { units = new.units; tags = new.tags; named = new.named; steps = new.steps } → HasUnitsMore s.steps.items new.steps.items → IsSameSolver s new
-same_named s new parts more = record {
-  inputs = ap (λ (x : Search). inputs_of x.store.clauses) parts;
-  held = ap (λ (x : Search). held_of x.store.clauses) parts;
-  learnt = ap (λ (x : Search). x.learnt.items) parts;
-  steps = record { more = more.more; is = more.is };
-  numbers = (ap (λ (x : Search). x.greatest) parts, ap (λ (x : Search). x.inputs) parts, ap (λ (x : Search). x.bound) parts);
-  packets = ap packets_of parts;
-  vars = ap (λ (x : Search). x.trail.vars) parts;
-}
-
-pub all_named_deep : (s : Search) (cube : List ℕ) → IsSearching s cube → (s.trail.depth ≡ 0 → ⊥) → AreAllNamed s
-all_named_deep s cube kept deep = record { each = kept.all_named (omega (arith, deep)) }
-
-pub all_named_zero : (s : Search) → s.named ≡ length s.trail.entries → AreAllNamed s
-all_named_zero s all = record { each = λ place lt zero. omega (arith, lt, all) }
-
--- steps came
-pub same_stepped : (s new : Search) → new ≡ record s { steps = new.steps } → IsFront s.steps.items new.steps.items → IsSameSolver s new
-same_stepped s new parts front = record {
-  inputs = ap (λ (x : Search). inputs_of x.store.clauses) parts;
-  held = ap (λ (x : Search). held_of x.store.clauses) parts;
-  learnt = ap (λ (x : Search). x.learnt.items) parts;
-  steps = front;
-  numbers = (ap (λ (x : Search). x.greatest) parts, ap (λ (x : Search). x.inputs) parts, ap (λ (x : Search). x.bound) parts);
-  packets = ap packets_of parts;
-  vars = ap (λ (x : Search). x.trail.vars) parts;
-}
-
-pub same_decided : (s new : Search) → new ≡ record s { trail = new.trail } → new.trail.vars ≡ s.trail.vars → IsSameSolver s new
-same_decided s new parts vars = record {
-  inputs = ap (λ (x : Search). inputs_of x.store.clauses) parts;
-  held = ap (λ (x : Search). held_of x.store.clauses) parts;
-  learnt = ap (λ (x : Search). x.learnt.items) parts;
-  steps = subst (λ (x : List Step). IsFront s.steps.items x) (sym (ap (λ (x : Search). x.steps.items) parts)) (same_front s.steps.items);
-  numbers = (ap (λ (x : Search). x.greatest) parts, ap (λ (x : Search). x.inputs) parts, ap (λ (x : Search). x.bound) parts);
-  packets = ap packets_of parts;
-  vars = vars;
-}

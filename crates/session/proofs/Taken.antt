@@ -181,10 +181,10 @@ stock_shared clauses packets packets' steps bound place packet one stock more fr
         held_last number k (number == length packet) refl (subst (λ (found : Option (List Step)). last_step_of found number ≡ Some k) (ap (packet_at packets') here ∙ more.here) is)
     held other number k is (inr apart) = held_push clauses shared k (stock.packets_held other number k (subst (λ (found : Option (List Step)). last_step_of found number ≡ Some k) (more.elsewhere other apart) is))
 
-pub search_took : (s new : Search) (cube : List ℕ) (place : ℕ) (packet : List Step) (one : Known) → IsSearching s cube → s.trail.depth ≡ 0 → new ≡ record s { store = new.store; packets = new.packets }
+pub search_took : (s new : Search) (place : ℕ) (packet : List Step) (one : Known) → IsSearching s → s.trail.depth ≡ 0 → new ≡ record s { store = new.store; packets = new.packets }
     → HasPlaceMore (packets_of s) (packets_of new) place packet → packet_at (packets_of s) place ≡ None → IsTakable (solver_of s) packet one → IsLitSet one.clause
-    → new.store.clauses ≡ s.store.clauses ++ record { lits = one.clause; tag = one.tag; origin = Shared place (length packet) } ∷ [] → new.store.vars ≡ s.store.vars → IsSearching new cube
-search_took s new cube place packet one kept bottom parts more free takable ascends added vars = subst (λ (x : Search). IsSearching x cube) (sym parts) (record {
+    → new.store.clauses ≡ s.store.clauses ++ record { lits = one.clause; tag = one.tag; origin = Shared place (length packet) } ∷ [] → new.store.vars ≡ s.store.vars → IsSearching new
+search_took s new place packet one kept bottom parts more free takable ascends added vars = subst (λ (x : Search). IsSearching x) (sym parts) (record {
   stock = subst (λ cs. IsStocked cs (packets_of new) s.steps.items s.bound) (sym added)
       (stock_shared s.store.clauses (packets_of s) (packets_of new) s.steps.items s.bound place packet one kept.stock more free takable.last takable.bounded takable.follows takable.within ascends);
   room = record {
@@ -203,11 +203,13 @@ search_took s new cube place packet one kept bottom parts more free takable asce
         (All-under (λ number. (x : Known) × IsStep s.steps.items number x × Contains (held_of s.store.clauses) x) (λ number. (x : Known) × IsStep s.steps.items number x × Contains (held_of s.store.clauses ++ known_clause shared ∷ []) x) s.learnt.items
         (λ n (x, is, there). (x, is, Contains-append_left (held_of s.store.clauses) (known_clause shared ∷ []) x there)) kept.counted.learnt);
   };
-  on = subst (λ lits. IsOnTrail lits cube s.trail.entries s.trail.depth) (sym (ap lits_of_each added ∙ map_push (λ (clause : ArenaClause). clause.lits) s.store.clauses shared))
-      (more_on_trail (lits_of_each s.store.clauses) one.clause cube s.trail.entries s.trail.depth (λ level lt. absurd (omega (arith, lt, bottom))) kept.on);
+  on = subst (λ lits. IsOnTrail lits s.trail.entries s.trail.depth) (sym (ap lits_of_each added ∙ map_push (λ (clause : ArenaClause). clause.lits) s.store.clauses shared))
+      (more_on_trail (lits_of_each s.store.clauses) one.clause s.trail.entries s.trail.depth (λ level lt. absurd (omega (arith, lt, bottom))) kept.on);
   named = subst (λ inputs. IsNamed (named_by inputs (packets_of new) s.steps.items) s.trail.entries s.units.items s.tags.items s.named) (sym inputs)
       (named_stays (table_of s) (named_by (inputs_of s.store.clauses) (packets_of new) s.steps.items) s.trail.entries s.units.items s.tags.items s.named
       (named_with_place (inputs_of s.store.clauses) (packets_of s) (packets_of new) s.steps.items place packet more free) kept.named);
+  trail = kept.trail;
+  cursor = kept.cursor;
   all_named = kept.all_named;
 })
   where
@@ -226,9 +228,10 @@ search_took s new cube place packet one kept bottom parts more free takable asce
     one_within : greatest_of one.clause ≤ greatest_of_all (clauses_of (inputs_of s.store.clauses))
     one_within = let wide = up_to_all (inputs_of s.store.clauses) one.tag in let low = takable.within in omega (arith, wide, low)
 
-pub took : (s new : Search) (place : ℕ) (packet : List Step) (one : Known) → new ≡ record s { store = new.store; packets = new.packets } → HasPlaceMore (packets_of s) (packets_of new) place packet → IsLitSet one.clause
+pub took : (s new : Search) (place : ℕ) (packet : List Step) (one : Known) → new ≡ record s { store = new.store; packets = new.packets } → HasPlaceMore (packets_of s) (packets_of new) place packet → item_at (map known_of packet) (length packet) ≡ Some one → IsLitSet one.clause
     → new.store.clauses ≡ s.store.clauses ++ record { lits = one.clause; tag = one.tag; origin = Shared place (length packet) } ∷ [] → HasTaken (solver_of s) (solver_of new) place packet one
-took s new place packet one parts more ascends added = record {
+took s new place packet one parts more last ascends added = record {
+  last = last;
   inputs = ap inputs_of added ∙ inputs_shared s.store.clauses one.clause one.tag place (length packet);
   bound = ap (λ (x : Search). x.bound) parts;
   held = ap held_of added ∙ map_push known_clause s.store.clauses (record { lits = one.clause; tag = one.tag; origin = Shared place (length packet) })
@@ -250,20 +253,20 @@ same_known : (found : Option Known) (one other : Known) → found ≡ Some one �
 same_known found one other first second = ap (λ (o : Option Known). unwrap_or o one) (sym first ∙ second)
 
 -- a clause that can be taken in is over reserved variables
-pub last_within : (s : Search) (cube : List ℕ) (packet shown : List Step) → IsSearching s cube → shown ≡ packet → (takable : (one : Known) × IsTakable (solver_of s) packet one)
+pub last_within : (s : Search) (packet shown : List Step) → IsSearching s → shown ≡ packet → (takable : (one : Known) × IsTakable (solver_of s) packet one)
     → (one : Known) → item_at (map known_of shown) (length shown) ≡ Some one → greatest_of one.clause ≤ s.store.vars
-last_within s cube packet shown kept same takable one is =
+last_within s packet shown kept same takable one is =
     let one_is = same_known (item_at (map known_of packet) (length packet)) takable.0 one takable.1.last (ap (λ (xs : List Step). item_at (map known_of xs) (length xs)) (sym same) ∙ is) in
     let wide = greatest_all_within (clauses_up_to (inputs_of s.store.clauses) takable.0.tag) (greatest_of_all (clauses_of (inputs_of s.store.clauses)))
     (λ clause has. among_greatest (clauses_of (inputs_of s.store.clauses)) clause (among_inputs (inputs_of s.store.clauses) takable.0.tag clause has)) in
     omega (arith, ap (λ (x : Known). greatest_of x.clause) one_is, takable.1.within, wide, kept.counted.greatest, kept.room.reserved, kept.room.store)
 
-pub takes : (s mid new : Search) (cube : List ℕ) (place : ℕ) (packet shown : List Step) → IsSearching s cube → s.trail.depth ≡ 0 → new ≡ record s { store = new.store; packets = new.packets } → new.store ≡ mid.store → HoldsLast s mid place shown → shown ≡ packet
+pub takes : (s mid new : Search) (place : ℕ) (packet shown : List Step) → IsSearching s → s.trail.depth ≡ 0 → new ≡ record s { store = new.store; packets = new.packets } → new.store ≡ mid.store → HoldsLast s mid place shown → shown ≡ packet
     → (takable : (one : Known) × IsTakable (solver_of s) packet one) → HasPlaceMore (packets_of s) (packets_of new) place packet → packet_at (packets_of s) place ≡ None
-    → IsSearching new cube × ((one : Known) × HasTaken (solver_of s) (solver_of new) place packet one)
-takes s mid new cube place packet shown kept bottom parts store holds same takable more free = (
-  search_took s new cube place packet one kept bottom parts more free takable.1 ascends added (ap (λ (x : StoreView). x.vars) store ∙ holds.vars),
-  (one, took s new place packet one parts more ascends added),
+    → IsSearching new × ((one : Known) × HasTaken (solver_of s) (solver_of new) place packet one)
+takes s mid new place packet shown kept bottom parts store holds same takable more free = (
+  search_took s new place packet one kept bottom parts more free takable.1 ascends added (ap (λ (x : StoreView). x.vars) store ∙ holds.vars),
+  (one, took s new place packet one parts more takable.1.last ascends added),
 )
   where
     one : Known
@@ -281,20 +284,22 @@ takes s mid new cube place packet shown kept bottom parts store holds same takab
         ∙ ap (λ (xs : List Step). s.store.clauses ++ record { lits = one.clause; tag = one.tag; origin = Shared place (length xs) } ∷ []) same
 
 -- Places that no packet came to go again.
-pub search_unplaced : (s new : Search) (cube : List ℕ) → IsSearching s cube → new ≡ record s { store = new.store; packets = new.packets } → new.store ≡ s.store → packets_of new ≡ packets_of s → IsSearching new cube
-search_unplaced s new cube kept parts store packets = subst (λ (x : Search). IsSearching x cube) (sym (parts ∙ ap (λ (x : StoreView). record s { store = x; packets = new.packets }) store)) (record {
+pub search_unplaced : (s new : Search) → IsSearching s → new ≡ record s { store = new.store; packets = new.packets } → new.store ≡ s.store → packets_of new ≡ packets_of s → IsSearching new
+search_unplaced s new kept parts store packets = subst (λ (x : Search). IsSearching x) (sym (parts ∙ ap (λ (x : StoreView). record s { store = x; packets = new.packets }) store)) (record {
   stock = subst (λ ps. IsStocked s.store.clauses ps s.steps.items s.bound) (sym packets) kept.stock;
   room = record { over = kept.room.over; reserved = kept.room.reserved; store = kept.room.store; scratch = kept.room.scratch; units = kept.room.units; tags = kept.room.tags };
   counted = record { greatest = kept.counted.greatest; inputs = kept.counted.inputs; learnt = kept.counted.learnt };
   on = kept.on;
   named = subst (λ ps. IsNamed (named_by (inputs_of s.store.clauses) ps s.steps.items) s.trail.entries s.units.items s.tags.items s.named) (sym packets) kept.named;
+  trail = kept.trail;
+  cursor = kept.cursor;
   all_named = kept.all_named;
 })
 
 -- A place is known whose packet's last clause is held.
-pub search_knows : (s new : Search) (cube : List ℕ) (place : ℕ) (packet : List Step) → IsSearching s cube → new ≡ record s { packets = new.packets } → HasPlaceMore (packets_of s) (packets_of new) place packet → packet_at (packets_of s) place ≡ None
-    → IsHeld (solver_of s) packet → IsSearching new cube
-search_knows s new cube place packet kept parts more free is_held = subst (λ (x : Search). IsSearching x cube) (sym parts) (record {
+pub search_knows : (s new : Search) (place : ℕ) (packet : List Step) → IsSearching s → new ≡ record s { packets = new.packets } → HasPlaceMore (packets_of s) (packets_of new) place packet → packet_at (packets_of s) place ≡ None
+    → IsHeld (solver_of s) packet → IsSearching new
+search_knows s new place packet kept parts more free is_held = subst (λ (x : Search). IsSearching x) (sym parts) (record {
   stock = record {
     lits = kept.stock.lits;
     named = All-under (λ clause. named_by inputs (packets_of s) s.steps.items clause.origin ≡ Some (known_clause clause)) (λ clause. named_by inputs (packets_of new) s.steps.items clause.origin ≡ Some (known_clause clause)) s.store.clauses
@@ -312,6 +317,8 @@ search_knows s new cube place packet kept parts more free is_held = subst (λ (x
   counted = record { greatest = kept.counted.greatest; inputs = kept.counted.inputs; learnt = kept.counted.learnt };
   on = kept.on;
   named = named_stays (table_of s) (named_by inputs (packets_of new) s.steps.items) s.trail.entries s.units.items s.tags.items s.named grows kept.named;
+  trail = kept.trail;
+  cursor = kept.cursor;
   all_named = kept.all_named;
 })
   where

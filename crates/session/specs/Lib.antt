@@ -6,13 +6,13 @@ pub mod Units
 pub mod Searching
 pub mod Moves
 pub mod Models
-pub mod Learning
 pub mod Loading
 pub mod Sharing
 pub mod Lessons
 pub mod Refutations
 pub mod Rounds
 pub mod Solving
+pub mod Descents
 pub mod Answering
 pub mod Session
 pub mod Publishing

@@ -6,14 +6,13 @@ use Rattle.sat_base.specs.declared.origins.Ref.{Ref}
 use Rattle.trace_core.specs.Known.{Known}
 use Rattle.trace_core.specs.declared.derivation.Step.{Step}
 use Rattle.clause_arena.specs.Arena.{clause_at, lits_of_each}
-use Rattle.trail_core.specs.Trail.{entry_at, lits_of}
+use Rattle.trail_core.specs.Trail.{IsTrail, entry_at, lits_of}
 use Rattle.trail_core.specs.UnderTrail.{IsFalseClause}
 use Rattle.propagate.specs.Store.{AreAllWithin}
 use Rattle.session.specs.declared.search.Search.{Search}
 use Rattle.session.specs.Solver.{Solver, inputs_of, held_of, clauses_of, named_by, IsStep}
-use Rattle.session.specs.Fronts.{IsFront}
 use Rattle.session.specs.Stock.{IsStocked}
-use Rattle.session.specs.OnTrail.{IsOnTrail}
+use Rattle.session.specs.OnTrail.{AreAssigned, IsOnTrail}
 use Rattle.session.specs.Units.{IsNamed}
 
 -- the packet of each place that is known
@@ -49,13 +48,17 @@ pub record IsCounted (search : Search) : Type 0 where
   pub inputs : search.inputs ≡ length (inputs_of search.store.clauses)
   pub learnt : All (λ number. (one : Known) × IsStep search.steps.items number one × Contains (held_of search.store.clauses) one) search.learnt.items
 
-pub record IsSearching (search : Search) (cube : List ℕ) : Type 0 where
+-- What a search keeps whatever cube it is asked about.
+pub record IsSearching (search : Search) : Type 0 where
   pub stock : IsStocked search.store.clauses (packets_of search) search.steps.items search.bound
   pub room : IsRoomy search
   pub counted : IsCounted search
-  pub on : IsOnTrail (lits_of_each search.store.clauses) cube search.trail.entries search.trail.depth
+  pub trail : IsTrail search.trail
+  pub on : IsOnTrail (lits_of_each search.store.clauses) search.trail.entries search.trail.depth
   pub named : IsNamed (table_of search) search.trail.entries search.units.items search.tags.items search.named
-  pub all_named : 0 < search.trail.depth → (place : ℕ) → place < length search.trail.entries → (entry_at search.trail.entries place).level ≡ 0 → place < search.named
+  pub all_named : 0 < search.trail.depth → (place : ℕ) → place < length search.trail.entries
+      → (entry_at search.trail.entries place).level ≡ 0 → place < search.named
+  pub cursor : AreAssigned (lits_of search.trail.entries) search.cursor
 
 -- every unit clause of level 0 has its name
 pub record AreAllNamed (search : Search) : Type 0 where
@@ -79,14 +82,9 @@ pub record HasStepsMore (old new : List Step) (numbers : List ℕ) : Type 0 wher
   pub ascend : AscendBetween (length old) numbers (length new)
   pub each : (number : ℕ) (one : Known) → length old < number → IsStep new number one → Contains numbers number ⊎ (length one.clause ≡ 1)
 
--- The same inputs, held clauses and learnt steps, after which own steps may have come.
-pub record IsSameSolver (old new : Search) : Type 0 where
-  pub inputs : inputs_of new.store.clauses ≡ inputs_of old.store.clauses
-  pub held : held_of new.store.clauses ≡ held_of old.store.clauses
-  pub learnt : new.learnt.items ≡ old.learnt.items
-  pub steps : IsFront old.steps.items new.steps.items
-  pub numbers : (new.greatest ≡ old.greatest) × (new.inputs ≡ old.inputs) × (new.bound ≡ old.bound)
-  pub packets : packets_of new ≡ packets_of old
+-- The variables of the inputs and those that are reserved stay.
+pub record HasSameVariables (old new : Search) : Type 0 where
+  pub greatest : new.greatest ≡ old.greatest
   pub vars : new.trail.vars ≡ old.trail.vars
 
 -- a clause that is false

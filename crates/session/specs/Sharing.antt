@@ -23,8 +23,9 @@ pub record HasPlaceMore (old new : List (Option (List Step))) (place : ℕ) (pac
   pub here : packet_at new place ≡ Some packet
   pub elsewhere : (other : ℕ) → other ≢ place → packet_at new other ≡ packet_at old other
 
--- The packet's last clause is held, its place is known, and nothing else changed.
+-- The packet's last clause, with its tag, is held, its place is known, and nothing else changed.
 pub record HasTaken (old new : Solver) (place : ℕ) (packet : List Step) (one : Known) : Type 0 where
+  pub last : item_at (map known_of packet) (length packet) ≡ Some one
   pub inputs : new.inputs ≡ old.inputs
   pub bound : new.bound ≡ old.bound
   pub held : new.held ≡ old.held ++ one ∷ []

@@ -64,15 +64,19 @@ IsStep steps number one = item_at (map known_of steps) number ≡ Some one
 abbrev pub IsWithinItsTag : List Known → Known → Type 0
 IsWithinItsTag inputs one = (IsTautology one.clause → ⊥) → greatest_of one.clause ≤ greatest_of_all (clauses_up_to inputs one.tag)
 
--- What every solver keeps, whatever calls come: each input is held; each held clause follows from the inputs, stands under its name,
--- has a tag up to the bound, and has no greater variable than the inputs up to its tag; each own step is ok with exact tag over the inputs, the steps of the known packets and the own steps
--- before it; and learnt steps and the last clauses of the known packets are held.
+-- What every solver keeps, whatever calls come: each input is held; each held clause is of literals, follows from
+-- the inputs, stands under its name, has a tag up to the bound, and has no greater variable than the inputs up to
+-- its tag; each own step is ok with exact tag over the inputs, the steps of the known packets and the own steps
+-- before it, follows from the inputs, and has no greater variable than the inputs up to its tag; and learnt steps
+-- and the last clauses of the known packets are held.
 pub record IsSound (solver : Solver) : Type 0 where
   pub inputs_held : All (Contains solver.held) solver.inputs
   pub named : All (λ one. (name : Ref) × (named_by solver.inputs solver.packets solver.steps name ≡ Some one)) solver.held
+  pub literals : All (λ one. All (λ lit. 2 ≤ lit) one.clause) solver.held
   pub entailed : All (λ one. Entails (clauses_of solver.inputs) one.clause) solver.held
   pub bounded : All (λ one. one.tag ≤ solver.bound) solver.held
   pub within : All (IsWithinItsTag solver.inputs) solver.held
+  pub steps_entailed : All (λ step. Entails (clauses_of solver.inputs) step.clause) solver.steps
   pub steps_within : All (λ step. IsWithinItsTag solver.inputs (known_of step)) solver.steps
   pub ok : AreOkSteps solver.inputs (shared_by solver.packets) [] solver.steps
   pub packets_held : (place number : ℕ) (one : Known) → last_step_of (packet_at solver.packets place) number ≡ Some one → Contains solver.held one

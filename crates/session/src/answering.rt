@@ -24,15 +24,15 @@ pub enum Conclusion {
 /// Rounds of `limit` learnt clauses until the cube has its answer. The search is at level 0 before and after.
 /// What was learnt is kept, also after want of memory. It comes to an end: over V variables there are at most 3^V clauses that aren't tautologies, and no clause
 /// is learnt twice.
-pub fn solve_until_answered(
+pub(crate) fn solve_until_answered(
     search: &mut Search,
     cube: &Cube,
     limit: u64,
 ) -> Result<Conclusion, AllocError>
-    requires kept { IsSearching search.old cube.now }
+    requires kept { IsSearching search.old }
     requires zero { search.old.trail.depth ≡ 0 }
     requires some { 0 < limit }
-    ensures kept { IsSearching search.new cube.now }
+    ensures kept { IsSearching search.new }
     ensures zero { search.new.trail.depth ≡ 0 }
     ensures keeps { Keeps (solver_of search.old) (solver_of search.new) }
     ensures answer { IfOk result (Answers (solver_of search.old) (solver_of search.new) cube.now) }

@@ -1,21 +1,22 @@
 //! What a search does with a clause that is false.
 
-ghost use Rattle.std.specs.Prelude.{◌≡◌, ℕ, ◌<◌, [], ◌∷◌, ◌++◌, length, Contains, OnOk, IfOk, IfSome, IfNone};
-ghost use Rattle.sat_base.specs.Lit.{IsLitSet};
+ghost use Rattle.std.specs.Prelude.{◌≡◌, ℕ, ◌<◌, [], ◌∷◌, ◌++◌, ◌≤◌, Some, length, Contains, OnOk, IfOk, IfSome, IfNone};
+ghost use Rattle.sat_base.specs.Lit.{IsLitSet, variable};
 ghost use Rattle.sat_base.specs.declared.origins.Ref.TheVariants.{Own};
-ghost use Rattle.clause_arena.specs.Arena.{clause_at};
-ghost use Rattle.trail_core.specs.Trail.{IsTrail, lits_of, up_to};
-ghost use Rattle.trail_core.specs.UnderTrail.{IsFalseClause, IsOpenClause, IsUnassigned};
+ghost use Rattle.clause_arena.specs.Arena.{lits_of_each};
+ghost use Rattle.trail_core.specs.Trail.{lits_of, up_to};
+ghost use Rattle.trail_core.specs.UnderTrail.{IsForced, IsOpenClause, IsUnassigned};
 ghost use Rattle.propagate.specs.Store.{AreWithin};
 ghost use Rattle.session.specs.Solver.{IsStep};
-ghost use Rattle.session.specs.Searching.{IsSearching, solver_of};
-ghost use Rattle.session.specs.Learning.{HasLearntOne};
+ghost use Rattle.session.specs.Searching.{IsSearching, HasSameVariables, IsConflict, solver_of};
+ghost use Rattle.session.specs.OnTrail.{AddsNoDecision};
 ghost use Rattle.session.specs.Lessons.{IsLesson};
-ghost use Rattle.session.specs.Solving.{Keeps};
+ghost use Rattle.session.specs.Solving.{Keeps, LearnsOne};
 
+use crate::levels::backjump;
 use crate::search::{Search, push_step};
 use analyze::learn;
-use sat_base::{Clause, Cube, Lit, Ref};
+use sat_base::{Clause, Lit, Ref};
 use std::alloc::AllocError;
 use trace_core::Step;
 use trail_core::Trail;
@@ -30,39 +31,49 @@ pub(crate) struct Lesson {
 
 /// Learns a clause from a clause that is false above level 0, adds it to the store, goes back to where it is
 /// unit, and makes its literal true.
-pub(crate) fn learn_from(
-    search: &mut Search,
-    cube: &Cube,
-    conflict: usize,
-) -> Result<(), AllocError>
-    requires kept { IsSearching search.old cube.now }
-    requires trail { IsTrail search.old.trail }
+pub(crate) fn learn_and_backjump(search: &mut Search, conflict: usize) -> Result<(), AllocError>
+    requires kept { IsSearching search.old }
     requires deep { 0 < search.old.trail.depth }
-    requires known { conflict < length search.old.store.clauses }
-    requires refuted { IsFalseClause (lits_of search.old.trail.entries) (clause_at search.old.store.clauses conflict).lits }
-    ensures kept { IsSearching search.new cube.now }
+    requires conflict { IsConflict search.old conflict }
+    ensures kept { IsSearching search.new }
     ensures keeps { Keeps (solver_of search.old) (solver_of search.new) }
-    ensures ok { OnOk result (HasLearntOne search.old search.new) }
+    ensures variables { HasSameVariables search.old search.new }
+    ensures decisions { AddsNoDecision search.old.trail.entries search.new.trail.entries }
+    ensures ok { OnOk result (LearnsOne (solver_of search.old) (solver_of search.new)) }
 {
-    let Lesson { clause, back, step } = analyze_conflict(search, cube, conflict)?;
+    let Lesson { clause, back, step } = analyze_conflict(search, conflict)?;
     let tag = step.tag;
-    let number = push_step(search, cube, step)?;
+    let number = push_step(search, step)?;
     // Back first: where the clause finds no room, the trail stands as it should all the same.
-    search.trail.back_to(back);
+    backjump(search, back);
     let lit = unassigned(&search.trail, &clause);
-    let id = hold(search, cube, &clause, tag, number)?;
+    let id = hold(search, &clause, tag, number)?;
     if let Some(lit) = lit {
-        search.trail.assign(lit, Some(id));
+        assert_literal(search, lit, id);
     }
     Ok(())
 }
 
-fn analyze_conflict(search: &mut Search, cube: &Cube, conflict: usize) -> Result<Lesson, AllocError>
-    requires kept { IsSearching search.old cube.now }
-    requires trail { IsTrail search.old.trail }
+// Makes the literal true that its reason forces.
+fn assert_literal(search: &mut Search, lit: Lit, id: usize)
+    requires kept { IsSearching search.old }
+    requires within { variable lit ≤ search.old.trail.vars }
+    requires free { IsUnassigned (lits_of search.old.trail.entries) lit }
+    requires forced { IsForced (lits_of_each search.old.store.clauses) search.old.trail.entries (record { lit = lit; level = search.old.trail.depth; reason = Some id }) }
+    ensures kept { IsSearching search.new }
+    ensures parts { search.new ≡ record search.old { trail = search.new.trail } }
+    ensures vars { search.new.trail.vars ≡ search.old.trail.vars }
+    ensures decisions { AddsNoDecision search.old.trail.entries search.new.trail.entries }
+{
+    search.trail.assign(lit, Some(id));
+    // Brings `IsTrail` of the trail with the literal.
+    let _ = search.trail.depth();
+}
+
+fn analyze_conflict(search: &mut Search, conflict: usize) -> Result<Lesson, AllocError>
+    requires kept { IsSearching search.old }
     requires deep { 0 < search.old.trail.depth }
-    requires known { conflict < length search.old.store.clauses }
-    requires refuted { IsFalseClause (lits_of search.old.trail.entries) (clause_at search.old.store.clauses conflict).lits }
+    requires conflict { IsConflict search.old conflict }
     ensures same { search.new ≡ search.old }
     ensures lesson { IfOk result (λ lesson. IsLesson search.old lesson) }
 {
@@ -83,19 +94,13 @@ fn analyze_conflict(search: &mut Search, cube: &Cube, conflict: usize) -> Result
 }
 
 // Adds the clause of an own step to the store, lists the step as learnt, and answers the clause's number.
-fn hold(
-    search: &mut Search,
-    cube: &Cube,
-    clause: &Clause,
-    tag: u32,
-    number: u64,
-) -> Result<usize, AllocError>
-    requires kept { IsSearching search.old cube.now }
+fn hold(search: &mut Search, clause: &Clause, tag: u32, number: u64) -> Result<usize, AllocError>
+    requires kept { IsSearching search.old }
     requires step { IsStep search.old.steps.items number (record { clause = clause.now; tag = tag }) }
     requires set { IsLitSet clause.now }
     requires within { AreWithin search.old.greatest clause.now }
     requires open_below { (level : ℕ) → level < search.old.trail.depth → IsOpenClause (lits_of (up_to level search.old.trail.entries)) clause.now }
-    ensures kept { IsSearching search.new cube.now }
+    ensures kept { IsSearching search.new }
     ensures parts { search.new ≡ record search.old { store = search.new.store; learnt = search.new.learnt } }
     ensures keeps { Keeps (solver_of search.old) (solver_of search.new) }
     ensures number { IfOk result (λ id. id ≡ length search.old.store.clauses) }

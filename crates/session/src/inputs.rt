@@ -2,7 +2,6 @@
 
 ghost use Rattle.std.specs.Prelude.{◌≡◌, ◌+◌, ◌<◌, ◌≤◌, ◌∷◌, [], length, take, OnOk, OnErr};
 ghost use Rattle.sat_base.specs.Lit.{greatest_of, greatest_of_all};
-ghost use Rattle.trail_core.specs.Trail.{IsTrail};
 ghost use Rattle.session.specs.Searching.{IsSearching, solver_of};
 ghost use Rattle.session.specs.Loading.{HasInputsOnly, HasInputsMore, loaded};
 
@@ -12,23 +11,22 @@ use std::alloc::AllocError;
 
 /// Adds the clauses of the next job behind the inputs, and makes it the job that is loaded. The variables of
 /// its cube are reserved besides. After want of memory the solver is as before.
-pub fn load(search: &mut Search, cube: &Cube, clauses: &[Clause]) -> Result<(), AllocError>
-    requires kept { IsSearching search.old cube.now }
-    requires trail { IsTrail search.old.trail }
+pub(crate) fn load(search: &mut Search, cube: &Cube, clauses: &[Clause]) -> Result<(), AllocError>
+    requires kept { IsSearching search.old }
     requires zero { search.old.trail.depth ≡ 0 }
     requires few { search.old.inputs + length clauses.now ≤ 16777216 }
     requires jobs { search.old.bound < 1048576 }
-    ensures kept { IsSearching search.new cube.now }
+    ensures kept { IsSearching search.new }
     ensures zero { search.new.trail.depth ≡ 0 }
     ensures ok { OnOk result (solver_of search.new ≡ loaded (solver_of search.old) clauses.now) }
     ensures err { OnErr result (solver_of search.new ≡ solver_of search.old) }
 {
     let vars = greatest_in(clauses).max(greatest_variable(cube.lits()));
-    reserve(search, cube, vars)?;
+    reserve(search, vars)?;
     let job = search.bound + 1;
     let before = search.store.arena().len();
     let (greatest, inputs, bound) = (search.greatest, search.inputs, search.bound);
-    match push_clauses(search, cube, clauses, job) {
+    match push_clauses(search, clauses, job) {
         Ok(()) => {
             search.bound = job;
             Ok(())
@@ -44,40 +42,30 @@ pub fn load(search: &mut Search, cube: &Cube, clauses: &[Clause]) -> Result<(), 
 }
 
 // Adds inputs of this job, whose variables are reserved. After want of memory some of them may be there.
-fn push_clauses(
-    search: &mut Search,
-    cube: &Cube,
-    clauses: &[Clause],
-    job: u32,
-) -> Result<(), AllocError>
-    requires kept { IsSearching search.old cube.now }
+fn push_clauses(search: &mut Search, clauses: &[Clause], job: u32) -> Result<(), AllocError>
+    requires kept { IsSearching search.old }
     requires zero { search.old.trail.depth ≡ 0 }
     requires few { search.old.inputs + length clauses.now ≤ 16777216 }
     requires reserved { greatest_of_all clauses.now ≤ search.old.trail.vars }
     requires job { search.old.bound ≤ job }
-    ensures kept { IsSearching search.new cube.now }
+    ensures kept { IsSearching search.new }
     ensures parts { HasInputsOnly search.old search.new }
     ensures ok { OnOk result (HasInputsMore search.old search.new clauses.now job) }
 {
     for clause in clauses {
-        push_clause(search, cube, clause, job)?;
+        push_clause(search, clause, job)?;
     }
     Ok(())
 }
 
 // Adds an input of this job, whose variables are reserved.
-fn push_clause(
-    search: &mut Search,
-    cube: &Cube,
-    clause: &Clause,
-    job: u32,
-) -> Result<(), AllocError>
-    requires kept { IsSearching search.old cube.now }
+fn push_clause(search: &mut Search, clause: &Clause, job: u32) -> Result<(), AllocError>
+    requires kept { IsSearching search.old }
     requires zero { search.old.trail.depth ≡ 0 }
     requires few { search.old.inputs < 16777216 }
     requires reserved { greatest_of clause.now ≤ search.old.trail.vars }
     requires job { search.old.bound ≤ job }
-    ensures kept { IsSearching search.new cube.now }
+    ensures kept { IsSearching search.new }
     ensures parts { HasInputsOnly search.old search.new }
     ensures inputs { OnOk result (search.new.inputs ≡ search.old.inputs + 1) }
     ensures ok { OnOk result (HasInputsMore search.old search.new (clause.now ∷ []) job) }
@@ -91,10 +79,9 @@ fn push_clause(
 }
 
 /// Reserves the variables 1 to `vars`; those that are reserved already stay so. The solver stays as it is.
-pub fn reserve(search: &mut Search, cube: &Cube, vars: u32) -> Result<(), AllocError>
-    requires kept { IsSearching search.old cube.now }
-    requires trail { IsTrail search.old.trail }
-    ensures kept { IsSearching search.new cube.now }
+pub(crate) fn reserve(search: &mut Search, vars: u32) -> Result<(), AllocError>
+    requires kept { IsSearching search.old }
+    ensures kept { IsSearching search.new }
     ensures solver { solver_of search.new ≡ solver_of search.old }
     ensures depth { search.new.trail.depth ≡ search.old.trail.depth }
     ensures numbers { (search.new.greatest ≡ search.old.greatest) × (search.new.inputs ≡ search.old.inputs) }
@@ -106,6 +93,8 @@ pub fn reserve(search: &mut Search, cube: &Cube, vars: u32) -> Result<(), AllocE
     grow_units(&mut search.units, vars as usize)?;
     grow_tags(&mut search.tags, vars as usize)?;
     search.trail.reserve(vars)?;
+    // Brings `IsTrail` of the trail with more variables.
+    let _ = search.trail.depth();
     Ok(())
 }
 

@@ -10,16 +10,16 @@
 mod answering;
 mod conflicts;
 mod inputs;
-mod laws;
+mod levels;
 mod models;
 mod moves;
 mod naming;
+mod propagation;
 mod publishing;
 mod refuting;
 mod rounds;
 mod search;
 mod session;
-mod settling;
 mod sharing;
 mod solving;
 #[cfg(test)]

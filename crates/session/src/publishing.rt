@@ -10,7 +10,7 @@ ghost use Rattle.session.specs.Publishing.{AreNamedAnew, IsSharable, Publishes};
 
 use crate::session::Session;
 use crate::sharing::know;
-use sat_base::{Cube, Ref};
+use sat_base::Ref;
 use std::alloc::{AllocError, Global};
 use std::sync::Arc;
 use trace_core::Packet;
@@ -46,11 +46,7 @@ impl Session {
         let numbers = packed_numbers(alloc, &self.search.steps, &self.names, step)?;
         let before = self.names.len();
         reach(&mut self.names, step as usize)?;
-        // At level 0 the search serves every cube, so also one without literals.
-        let cube = Cube::of_ascending(Vec::new(alloc));
-        let known = know(&mut self.search, &cube, place, packet);
-        let _ = self.search.trail.depth();
-        match known {
+        match know(&mut self.search, place, packet) {
             Ok(()) => {
                 name_steps(&mut self.names, &numbers, place);
                 Ok(())

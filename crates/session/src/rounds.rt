@@ -1,22 +1,31 @@
-//! Rounds of the search.
+//! Rounds of the search, which is conflict-driven clause learning:
+//!
+//! - Propagate unit clauses: `propagate_and_name`.
+//! - If a clause is false at level 0, the inputs are refuted: `refute_all`.
+//! - If a clause is false above level 0, analyze the conflict to its first unique implication point, learn the
+//!   clause that it gives, jump back to where this is unit, and assert its literal: `learn_and_backjump`.
+//! - Else if an assumption is false, a part of the cube is refuted: `refute_literal`.
+//! - Else if an assumption is unassigned, it is the next decision; then it is a free variable: `next_move` and
+//!   `decide`.
+//! - Else all variables are assigned, and the trail is a model: `assignment`.
 
-ghost use Rattle.std.specs.Prelude.{◌≡◌, ◌+◌, ◌<◌, ◌≤◌, length, IfOk, OnOk, IfSome, IfNone};
-ghost use Rattle.trail_core.specs.Trail.{IsTrail, lits_of};
+ghost use Rattle.std.specs.Prelude.{◌≡◌, ℕ, ◌<◌, List, [], length, IfOk, IfSome, IfNone};
 ghost use Rattle.trail_core.specs.UnderTrail.{IsComplete};
 ghost use Rattle.clause_arena.specs.Arena.{lits_of_each};
-ghost use Rattle.session.specs.Searching.{IsSearching, AreAllNamed, HasStepsMore, IsSameSolver, IsConflict, solver_of};
-ghost use Rattle.session.specs.Learning.{HasLearntOne};
-ghost use Rattle.session.specs.Moves.{IsDecidable};
-ghost use Rattle.session.specs.Rounds.{AreVariables, IsAnswer, IsDescent, HasLearntNext, HasRun, step_of_round, step_of_descent, step_of_end};
-ghost use Rattle.session.specs.Solving.{Keeps};
+ghost use Rattle.session.specs.OnTrail.{AddsNoDecision};
+ghost use Rattle.session.specs.Searching.{IsSearching, AreAllNamed, HasSameVariables, IsConflict, solver_of};
+ghost use Rattle.session.specs.Rounds.{IsInRound};
+ghost use Rattle.session.specs.Descents.{Descends};
+ghost use Rattle.session.specs.Solving.{Concludes, Keeps, Learns, LearnsOne, Solves};
 
-use crate::conflicts::learn_from;
+use crate::conflicts::learn_and_backjump;
+use crate::levels::decide;
 use crate::models::assignment;
 use crate::moves::{Move, next_move};
+use crate::propagation::propagate_and_name;
 use crate::refuting::{refute_all, refute_literal};
 use crate::search::Search;
-use crate::settling::settle;
-use sat_base::{Assign, Cube, Lit};
+use sat_base::{Assign, Cube};
 use std::alloc::AllocError;
 
 /// What came of a round.
@@ -47,16 +56,14 @@ pub(crate) fn run_round(
     vars: u32,
     limit: u64,
 ) -> Result<Round, AllocError>
-    requires kept { IsSearching search.old cube.now }
-    requires trail { IsTrail search.old.trail }
-    requires fits { AreVariables search.old cube.now vars }
-    ensures kept { IsSearching search.new cube.now }
+    requires round { IsInRound search.old cube.now vars }
+    ensures kept { IsSearching search.new }
     ensures keeps { Keeps (solver_of search.old) (solver_of search.new) }
-    ensures round { IfOk result (HasRun search.old search.new cube.now limit) }
+    ensures round { IfOk result (Solves (solver_of search.old) (solver_of search.new) cube.now limit) }
 {
     let mut count = 0;
     while count < limit {
-        match step(search, cube, vars)? {
+        match learn_or_answer(search, cube, vars)? {
             Some(round) => return Ok(round),
             None => count += 1,
         }
@@ -65,60 +72,47 @@ pub(crate) fn run_round(
 }
 
 // Goes on until the search has its answer, or learns one clause.
-fn step(search: &mut Search, cube: &Cube, vars: u32) -> Result<Option<Round>, AllocError>
-    requires kept { IsSearching search.old cube.now }
-    requires trail { IsTrail search.old.trail }
-    requires fits { AreVariables search.old cube.now vars }
-    ensures kept { IsSearching search.new cube.now }
+fn learn_or_answer(search: &mut Search, cube: &Cube, vars: u32) -> Result<Option<Round>, AllocError>
+    requires round { IsInRound search.old cube.now vars }
+    ensures round { IsInRound search.new cube.now vars }
     ensures keeps { Keeps (solver_of search.old) (solver_of search.new) }
-    ensures trail { OnOk result (IsTrail search.new.trail) }
-    ensures ends { IfOk result (λ end. IfSome end (λ round. IsSameSolver search.old search.new × IsAnswer search.new cube.now round)) }
-    ensures steps { IfOk result (λ end. IfSome end (λ round. HasStepsMore search.old.steps.items search.new.steps.items (step_of_round round))) }
-    ensures learns { IfOk result (λ end. IfNone end (HasLearntNext search.old search.new)) }
+    ensures ends { IfOk result (λ end. IfSome end (Concludes (solver_of search.old) (solver_of search.new) cube.now)) }
+    ensures learns { IfOk result (λ end. IfNone end (LearnsOne (solver_of search.old) (solver_of search.new))) }
 {
     match descend(search, cube, vars)? {
         Descent::Ended(round) => Ok(Some(round)),
-        Descent::Conflict(id) => match meet_conflict(search, cube, id)? {
-            Some(round) => Ok(Some(round)),
-            None => Ok(None),
-        },
+        Descent::Conflict(id) => resolve_conflict(search, id),
     }
 }
 
 // A conflict at level 0 refutes the empty part; any other teaches a clause.
-fn meet_conflict(search: &mut Search, cube: &Cube, id: usize) -> Result<Option<Round>, AllocError>
-    requires kept { IsSearching search.old cube.now }
-    requires trail { IsTrail search.old.trail }
+fn resolve_conflict(search: &mut Search, id: usize) -> Result<Option<Round>, AllocError>
+    requires kept { IsSearching search.old }
     requires conflict { IsConflict search.old id }
-    ensures kept { IsSearching search.new cube.now }
+    ensures kept { IsSearching search.new }
     ensures keeps { Keeps (solver_of search.old) (solver_of search.new) }
-    ensures trail { OnOk result (IsTrail search.new.trail) }
-    ensures ends { IfOk result (λ end. IfSome end (λ round. IsSameSolver search.old search.new × IsAnswer search.new cube.now round)) }
-    ensures steps { IfOk result (λ end. IfSome end (λ round. HasStepsMore search.old.steps.items search.new.steps.items (step_of_round round))) }
-    ensures learns { IfOk result (λ end. IfNone end (HasLearntOne search.old search.new)) }
+    ensures variables { HasSameVariables search.old search.new }
+    ensures decisions { AddsNoDecision search.old.trail.entries search.new.trail.entries }
+    ensures ends { IfOk result (λ end. IfSome end (λ round. (cube : List ℕ) → Concludes (solver_of search.old) (solver_of search.new) cube round)) }
+    ensures learns { IfOk result (λ end. IfNone end (LearnsOne (solver_of search.old) (solver_of search.new))) }
 {
     if search.trail.depth() != 0 {
-        learn_from(search, cube, id)?;
-        let _ = search.trail.depth();
+        learn_and_backjump(search, id)?;
         return Ok(None);
     }
-    let (part, number) = refute_all(search, cube, id)?;
+    let (part, number) = refute_all(search, id)?;
     Ok(Some(Round::Refuted(part, number)))
 }
 
 // Decides until a clause is false, or the search has its answer.
 fn descend(search: &mut Search, cube: &Cube, vars: u32) -> Result<Descent, AllocError>
-    requires kept { IsSearching search.old cube.now }
-    requires trail { IsTrail search.old.trail }
-    requires fits { AreVariables search.old cube.now vars }
-    ensures kept { IsSearching search.new cube.now }
-    ensures same { IsSameSolver search.old search.new }
-    ensures trail { IsTrail search.new.trail }
-    ensures steps { IfOk result (λ descent. HasStepsMore search.old.steps.items search.new.steps.items (step_of_descent descent)) }
-    ensures descent { IfOk result (IsDescent search.new cube.now) }
+    requires round { IsInRound search.old cube.now vars }
+    ensures round { IsInRound search.new cube.now vars }
+    ensures keeps { Keeps (solver_of search.old) (solver_of search.new) }
+    ensures descends { IfOk result (Descends search.old search.new cube.now) }
 {
     loop {
-        match advance(search, cube, vars)? {
+        match propagate_and_decide(search, cube, vars)? {
             Some(end) => return Ok(end),
             None => {}
         }
@@ -126,45 +120,48 @@ fn descend(search: &mut Search, cube: &Cube, vars: u32) -> Result<Descent, Alloc
 }
 
 // Propagates and decides once, where the search doesn't come to an end.
-fn advance(search: &mut Search, cube: &Cube, vars: u32) -> Result<Option<Descent>, AllocError>
-    requires kept { IsSearching search.old cube.now }
-    requires trail { IsTrail search.old.trail }
-    requires fits { AreVariables search.old cube.now vars }
-    ensures kept { IsSearching search.new cube.now }
-    ensures same { IsSameSolver search.old search.new }
-    ensures trail { IsTrail search.new.trail }
-    ensures steps { IfOk result (λ end. HasStepsMore search.old.steps.items search.new.steps.items (step_of_end end)) }
-    ensures ends { IfOk result (λ end. IfSome end (IsDescent search.new cube.now)) }
-    ensures goes_on { IfOk result (λ end. IfNone end (length search.old.trail.entries < length search.new.trail.entries)) }
+fn propagate_and_decide(
+    search: &mut Search,
+    cube: &Cube,
+    vars: u32,
+) -> Result<Option<Descent>, AllocError>
+    requires round { IsInRound search.old cube.now vars }
+    ensures round { IsInRound search.new cube.now vars }
+    ensures keeps { Keeps (solver_of search.old) (solver_of search.new) }
+    ensures ends { IfOk result (λ end. IfSome end (Descends search.old search.new cube.now)) }
+    ensures learns { IfOk result (λ end. IfNone end (Learns (solver_of search.old) (solver_of search.new) [] [])) }
+    ensures vars { search.new.trail.vars ≡ search.old.trail.vars }
+    ensures longer { IfOk result (λ end. IfNone end (length search.old.trail.entries < length search.new.trail.entries)) }
 {
-    match settle(search, cube)? {
+    match propagate_and_name(search)? {
         Some(id) => Ok(Some(Descent::Conflict(id))),
-        None => follow(search, cube, vars),
+        None => decide_or_answer(search, cube, vars),
     }
 }
 
 // Makes the next move, where propagation is complete.
-fn follow(search: &mut Search, cube: &Cube, vars: u32) -> Result<Option<Descent>, AllocError>
-    requires kept { IsSearching search.old cube.now }
-    requires trail { IsTrail search.old.trail }
-    requires fits { AreVariables search.old cube.now vars }
+fn decide_or_answer(
+    search: &mut Search,
+    cube: &Cube,
+    vars: u32,
+) -> Result<Option<Descent>, AllocError>
+    requires round { IsInRound search.old cube.now vars }
     requires complete { IsComplete search.old.trail.entries search.old.trail.depth (lits_of_each search.old.store.clauses) }
     requires all_named { AreAllNamed search.old }
-    ensures kept { IsSearching search.new cube.now }
-    ensures same { IsSameSolver search.old search.new }
-    ensures trail { IsTrail search.new.trail }
-    ensures steps { IfOk result (λ end. HasStepsMore search.old.steps.items search.new.steps.items (step_of_end end)) }
-    ensures ends { IfOk result (λ end. IfSome end (IsDescent search.new cube.now)) }
-    ensures goes_on { IfOk result (λ end. IfNone end (length search.old.trail.entries < length search.new.trail.entries)) }
+    ensures round { IsInRound search.new cube.now vars }
+    ensures keeps { Keeps (solver_of search.old) (solver_of search.new) }
+    ensures ends { IfOk result (λ end. IfSome end (Descends search.old search.new cube.now)) }
+    ensures learns { IfOk result (λ end. IfNone end (Learns (solver_of search.old) (solver_of search.new) [] [])) }
+    ensures vars { search.new.trail.vars ≡ search.old.trail.vars }
+    ensures longer { IfOk result (λ end. IfNone end (length search.old.trail.entries < length search.new.trail.entries)) }
 {
-    let _ = search.trail.depth();
-    match next_move(&search.trail, cube, vars) {
+    match next_move(&search.trail, &mut search.cursor, cube, vars) {
         Move::Decide(lit) => {
-            decide(search, cube, lit);
+            decide(search, lit);
             Ok(None)
         }
         Move::Blame(lit) => {
-            let (part, number) = refute_literal(search, cube, lit)?;
+            let (part, number) = refute_literal(search, lit)?;
             Ok(Some(Descent::Ended(Round::Refuted(part, number))))
         }
         Move::Stop => {
@@ -172,22 +169,4 @@ fn follow(search: &mut Search, cube: &Cube, vars: u32) -> Result<Option<Descent>
             Ok(Some(Descent::Ended(Round::Model(model))))
         }
     }
-}
-
-// Opens a level with a decision.
-fn decide(search: &mut Search, cube: &Cube, lit: Lit)
-    requires kept { IsSearching search.old cube.now }
-    requires trail { IsTrail search.old.trail }
-    requires complete { IsComplete search.old.trail.entries search.old.trail.depth (lits_of_each search.old.store.clauses) }
-    requires all_named { AreAllNamed search.old }
-    requires decidable { IsDecidable (lits_of search.old.trail.entries) cube.now search.old.trail.vars lit }
-    ensures kept { IsSearching search.new cube.now }
-    ensures parts { search.new ≡ record search.old { trail = search.new.trail } }
-    ensures vars { search.new.trail.vars ≡ search.old.trail.vars }
-    ensures trail { IsTrail search.new.trail }
-    ensures longer { length search.new.trail.entries ≡ length search.old.trail.entries + 1 }
-{
-    search.trail.open_level();
-    search.trail.assign(lit, None);
-    let _ = search.trail.depth();
 }

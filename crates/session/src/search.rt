@@ -1,6 +1,6 @@
 //! What a solver keeps.
 
-ghost use Rattle.std.specs.Prelude.{◌≡◌, ℕ, List, ◌∷◌, [], ◌++◌, length, Some, IfOk, OnOk, OnErr};
+ghost use Rattle.std.specs.Prelude.{◌≡◌, ◌∷◌, [], ◌++◌, length, Some, IfOk, OnOk, OnErr};
 ghost use Rattle.sat_base.specs.declared.origins.Ref.TheVariants.{Own};
 ghost use Rattle.trace_core.specs.Trace.{IsOkStep, known_of};
 ghost use Rattle.session.specs.Searching.{IsSearching, solver_of, table_of};
@@ -8,7 +8,7 @@ ghost use Rattle.session.specs.Fronts.{IsFront};
 
 use analyze::Scratch;
 use propagate::Store;
-use sat_base::{Cube, Ref};
+use sat_base::Ref;
 use std::alloc::{AllocError, Global};
 use std::sync::Arc;
 use trace_core::{Packet, Step};
@@ -16,32 +16,34 @@ use trail_core::Trail;
 
 /// The parts of a solver. What they keep together is said in `specs/Searching.antt`.
 #[derive(Debug, Drop)]
-pub struct Search {
-    pub alloc: Global,
+pub(crate) struct Search {
+    pub(crate) alloc: Global,
     // The inputs, the learnt clauses and those that were taken in.
-    pub store: Store,
-    pub trail: Trail,
-    pub scratch: Scratch,
+    pub(crate) store: Store,
+    pub(crate) trail: Trail,
+    pub(crate) scratch: Scratch,
     // For each variable of level 0 the name and the tag of the clause of its one true literal; the first
     // so many literals of the trail have theirs.
-    pub units: Vec<Ref>,
-    pub tags: Vec<u32>,
-    pub named: usize,
+    pub(crate) units: Vec<Ref>,
+    pub(crate) tags: Vec<u32>,
+    pub(crate) named: usize,
+    // All variables up to this one are assigned.
+    pub(crate) cursor: u32,
     // The greatest variable of the inputs, their number, and the number of the job that is loaded.
-    pub greatest: u32,
-    pub inputs: u32,
-    pub bound: u32,
+    pub(crate) greatest: u32,
+    pub(crate) inputs: u32,
+    pub(crate) bound: u32,
     // The shared packet of each place that is known, places counted from 1.
-    pub packets: Vec<Option<Arc<Packet>>>,
+    pub(crate) packets: Vec<Option<Arc<Packet>>>,
     // The own steps, and the numbers of those that are learnt clauses.
-    pub steps: Vec<Step>,
-    pub learnt: Vec<u64>,
+    pub(crate) steps: Vec<Step>,
+    pub(crate) learnt: Vec<u64>,
 }
 
 impl Search {
     /// A search without inputs, at level 0. Takes no memory.
-    pub fn new(alloc: Global) -> Search
-        ensures kept { (cube : List ℕ) → IsSearching result cube }
+    pub(crate) fn new(alloc: Global) -> Search
+        ensures kept { IsSearching result }
         ensures solver { solver_of result ≡ record { inputs = []; bound = 0; held = []; steps = []; learnt = []; packets = [] } }
         ensures zero { result.trail.depth ≡ 0 }
         ensures none { result.inputs ≡ 0 }
@@ -54,6 +56,7 @@ impl Search {
             units: Vec::new(alloc),
             tags: Vec::new(alloc),
             named: 0,
+            cursor: 0,
             greatest: 0,
             inputs: 0,
             bound: 0,
@@ -65,10 +68,10 @@ impl Search {
 }
 
 /// Adds an own step behind the others and answers its number.
-pub(crate) fn push_step(search: &mut Search, cube: &Cube, step: Step) -> Result<u64, AllocError>
-    requires kept { IsSearching search.old cube.now }
+pub(crate) fn push_step(search: &mut Search, step: Step) -> Result<u64, AllocError>
+    requires kept { IsSearching search.old }
     requires ok { IsOkStep (table_of search.old) step }
-    ensures kept { IsSearching search.new cube.now }
+    ensures kept { IsSearching search.new }
     ensures parts { search.new ≡ record search.old { steps = search.new.steps } }
     ensures pushed { OnOk result (search.new.steps.items ≡ search.old.steps.items ++ step ∷ []) }
     ensures number { IfOk result (λ number. number ≡ length search.new.steps.items) }

@@ -62,10 +62,7 @@ impl Session {
         ensures ok { OnOk result (self.new ≡ record self.old { solver = loaded self.old.solver clauses.now }) }
         ensures err { OnErr result (self.new ≡ self.old) }
     {
-        let _ = self.search.trail.depth();
-        let loaded = load(&mut self.search, cube, clauses);
-        let _ = self.search.trail.depth();
-        loaded
+        load(&mut self.search, cube, clauses)
     }
 
     /// Takes in the last clause of the packet of this place of the shared database, and knows the place from now
@@ -78,11 +75,7 @@ impl Session {
         ensures names { self.new.names ≡ self.old.names }
         ensures err { OnErr result (self.new ≡ self.old) }
     {
-        // At level 0 the search serves every cube, so also one without literals.
-        let cube = Cube::of_ascending(Vec::new(self.search.alloc));
-        let taken = take_in(&mut self.search, &cube, place, packet);
-        let _ = self.search.trail.depth();
-        taken
+        take_in(&mut self.search, place, packet)
     }
 
     /// One round of at most `limit` learnt clauses, which are kept: a model of exactly the variables 1 to the greatest
@@ -93,9 +86,7 @@ impl Session {
         ensures keeps { Keeps self.old.solver self.new.solver }
         ensures names { self.new.names ≡ self.old.names }
     {
-        let round = solve(&mut self.search, cube, limit);
-        let _ = self.search.trail.depth();
-        round
+        solve(&mut self.search, cube, limit)
     }
 
     /// Rounds of `limit` learnt clauses until the cube has its answer. It comes to an end, since no clause is learnt
@@ -110,9 +101,7 @@ impl Session {
         ensures keeps { Keeps self.old.solver self.new.solver }
         ensures names { self.new.names ≡ self.old.names }
     {
-        let answer = solve_until_answered(&mut self.search, cube, limit);
-        let _ = self.search.trail.depth();
-        answer
+        solve_until_answered(&mut self.search, cube, limit)
     }
 
     /// Whether the place of the shared database is known: imported or published. Takes no memory.

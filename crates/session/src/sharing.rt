@@ -10,25 +10,24 @@ ghost use Rattle.session.specs.Searching.{IsSearching, packets_of, solver_of};
 ghost use Rattle.session.specs.Sharing.{IsTakable, HasTaken, IsHeld, Knows, HasPlacesOnly, HoldsLast};
 
 use crate::search::Search;
-use sat_base::{Cube, Ref};
+use sat_base::Ref;
 use std::alloc::AllocError;
 use std::sync::Arc;
 use trace_core::Packet;
 
 /// Takes in the last clause of the packet of this place, and knows the place from now on. After want of memory
 /// the solver is as before.
-pub fn take_in(
+pub(crate) fn take_in(
     search: &mut Search,
-    cube: &Cube,
     place: u32,
     packet: &Arc<Packet>,
 ) -> Result<(), AllocError>
-    requires kept { IsSearching search.old cube.now }
+    requires kept { IsSearching search.old }
     requires zero { search.old.trail.depth ≡ 0 }
     requires place { 1 ≤ place }
     requires unknown { packet_at (packets_of search.old) place ≡ None }
     requires takable { (one : Known) × IsTakable (solver_of search.old) (arc_value packet.now) one }
-    ensures kept { IsSearching search.new cube.now }
+    ensures kept { IsSearching search.new }
     ensures zero { search.new.trail.depth ≡ 0 }
     ensures ok { OnOk result ((one : Known) × HasTaken (solver_of search.old) (solver_of search.new) place (arc_value packet.now) one) }
     ensures err { OnErr result (solver_of search.new ≡ solver_of search.old) }
@@ -49,17 +48,12 @@ pub fn take_in(
 
 /// Knows the place from now on, whose packet's last clause is held already. After want of memory the solver is
 /// as before.
-pub fn know(
-    search: &mut Search,
-    cube: &Cube,
-    place: u32,
-    packet: &Arc<Packet>,
-) -> Result<(), AllocError>
-    requires kept { IsSearching search.old cube.now }
+pub(crate) fn know(search: &mut Search, place: u32, packet: &Arc<Packet>) -> Result<(), AllocError>
+    requires kept { IsSearching search.old }
     requires place { 1 ≤ place }
     requires unknown { packet_at (packets_of search.old) place ≡ None }
     requires held { IsHeld (solver_of search.old) (arc_value packet.now) }
-    ensures kept { IsSearching search.new cube.now }
+    ensures kept { IsSearching search.new }
     ensures depth { search.new.trail.depth ≡ search.old.trail.depth }
     ensures ok { OnOk result (Knows (solver_of search.old) (solver_of search.new) place (arc_value packet.now)) }
     ensures err { OnErr result (solver_of search.new ≡ solver_of search.old) }
@@ -90,6 +84,7 @@ fn hold_last(search: &mut Search, place: u32, packet: &Packet) -> Result<(), All
     reach(&mut search.packets, place as usize)?;
     let steps = packet.steps.items();
     let step = &steps[steps.len() - 1];
+    // Brings that the literals of the clause are a set in order.
     let _ = step.clause.lits();
     let name = Ref::Shared {
         packet: place,

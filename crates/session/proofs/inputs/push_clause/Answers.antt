@@ -15,13 +15,13 @@ add-requires c =
 
 pub returns-in_err-add-clause-kept : goal.returns-in_err-add-clause-kept
 returns-in_err-add-clause-kept c =
-    subst (λ (store : StoreView). IsSearching (record c.args.search.now { store = store }) c.args.cube.now) (sym c.in_err-add.ensures.err) c.requires.kept
+    subst (λ (store : StoreView). IsSearching (record c.args.search.now { store = store })) (sym c.in_err-add.ensures.err) c.requires.kept
 
 pub returns-clause-kept : goal.returns-clause-kept
 returns-clause-kept c =
     let s = c.args.search.now in
     let greatest = c.greatest_variable.ensures ∙ ap greatest_of c.lits.ensures.value in
-    search_input s c.args.cube.now c.args.clause.now c.add.new.self c.args.job (s.inputs + 1) c.greatest_variable.result c.max-search.result c.requires.kept c.requires.zero c.lits.ensures.set c.requires.job refl greatest c.max-search.ensures
+    search_input s c.args.clause.now c.add.new.self c.args.job (s.inputs + 1) c.greatest_variable.result c.max-search.result c.requires.kept c.requires.zero c.lits.ensures.set c.requires.job refl greatest c.max-search.ensures
     (omega (arith, greatest, c.requires.reserved)) c.in_ok-add.ensures.ok c.in_ok-add.ensures.vars
 
 pub returns-clause-parts : goal.returns-clause-parts

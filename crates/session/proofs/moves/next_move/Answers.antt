@@ -3,8 +3,8 @@ use Rattle.std.proofs.lemmas.List.Elements.{All-contains}
 use Rattle.sat_base.specs.Lit.{variable}
 use Rattle.session.proofs.moves.next_move.Goals as goal
 
-pub returns-in-None : goal.returns-in-None
-returns-in-None c =
+pub returns-in-None-clause-next : goal.returns-in-None-clause-next
+returns-in-None-clause-next c =
     let some = c.in-Some.ensures.some in
     record {
       is = some.0;

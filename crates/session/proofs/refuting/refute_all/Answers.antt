@@ -6,7 +6,7 @@ use Rattle.trace_core.specs.Known.{Known}
 use Rattle.trace_core.specs.Trace.{IsOkStep}
 use Rattle.trace_core.specs.declared.derivation.Step.{Step}
 use Rattle.clause_arena.specs.Arena.{ArenaClause, clause_at}
-use Rattle.trail_core.specs.Trail.{TrailView, IsTrail, lits_of}
+use Rattle.trail_core.specs.Trail.{TrailView, lits_of}
 use Rattle.trail_core.specs.UnderTrail.{IsFalseClause}
 use Rattle.propagate.specs.Store.{StoreView}
 use Rattle.analyze.specs.Table.{IsNameOf}
@@ -30,7 +30,7 @@ unit_step-requires-clause-proper c =
     let old = c.args.search.now in
     let store_is : c.arena.result.now ≡ old.store.clauses = c.arena.ensures.value ∙ ap (λ (x : Search). x.store.clauses) c.in_ok-name_units.ensures.parts in
     subst (λ (xs : List ArenaClause). (lit : ℕ) → Contains (clause_at xs c.args.conflict).lits lit → Contains (clause_at xs c.args.conflict).lits (opposite lit) → ⊥) (sym store_is)
-    (λ lit has both. false_proper old.trail (clause_at old.store.clauses c.args.conflict).lits c.requires.trail c.requires.refuted (record { lit = lit; has = has; has_opposite = both }))
+    (λ lit has both. false_proper old.trail (clause_at old.store.clauses c.args.conflict).lits c.requires.kept.trail c.requires.refuted (record { lit = lit; has = has; has_opposite = both }))
 
 pub push_step-requires-clause-ok : goal.push_step-requires-clause-ok
 push_step-requires-clause-ok c =
@@ -43,8 +43,8 @@ push_step-requires-clause-ok c =
     let derived = subst (λ clauses. Derives c.args.conflict step clauses s.units.items s.tags.items) c.arena.ensures.value
     (subst (λ units. Derives c.args.conflict step c.arena.result.now units s.tags.items) c.deref.ensures.value
     (subst (λ tags. Derives c.args.conflict step c.arena.result.now c.deref.result.now tags) c.deref-2.ensures.value c.in_ok-step.ensures.derived)) in
-    derived (table_of s) (name_of_clause s c.args.cube.now c.args.conflict e.kept (subst (λ (x : StoreView). c.args.conflict < length x.clauses) (sym store_is) c.requires.known))
-    (zero_opposites s c.args.cube.now (clause_at s.store.clauses c.args.conflict).lits e.kept (subst IsTrail (sym trail_is) c.requires.trail) (ap (λ (t : TrailView). t.depth) trail_is ∙ c.requires.zero)
+    derived (table_of s) (name_of_clause s c.args.conflict e.kept (subst (λ (x : StoreView). c.args.conflict < length x.clauses) (sym store_is) c.requires.known))
+    (zero_opposites s (clause_at s.store.clauses c.args.conflict).lits e.kept (ap (λ (t : TrailView). t.depth) trail_is ∙ c.requires.zero)
     (e.all ∙ ap (λ (t : TrailView). length t.entries) (sym trail_is))
     (subst (λ (x : StoreView). IsFalseClause (lits_of s.trail.entries) (clause_at x.clauses c.args.conflict).lits) (sym store_is)
     (subst (λ (t : TrailView). IsFalseClause (lits_of t.entries) (clause_at old.store.clauses c.args.conflict).lits) (sym trail_is) c.requires.refuted)))
@@ -58,11 +58,11 @@ returns-clause-last c =
     steps_then old mid new [] (number ∷ []) (units_steps old mid c.in_ok-name_units.ensures.steps) (pushed_steps mid new c.in_ok-step.step number c.in_ok-number.ensures.pushed c.in_ok-number.ensures.number)
 
 pub returns-clause-answer : goal.returns-clause-answer
-returns-clause-answer c =
+returns-clause-answer c = λ cube.
     let new = c.push_step.new.search in
     let part_is : c.of_ascending.result ≡ [] = c.of_ascending.ensures ∙ c.new.ensures.items in
-    subst (λ (store : StoreView). IsRefutation (inputs_of store.clauses) new.steps.items c.args.cube.now c.of_ascending.result c.in_ok-number.number)
+    subst (λ (store : StoreView). IsRefutation (inputs_of store.clauses) new.steps.items cube c.of_ascending.result c.in_ok-number.number)
     (ap (λ (x : Search). x.store) c.in_ok-number.ensures.parts ∙ ap (λ (x : Search). x.store) c.in_ok-name_units.ensures.parts)
-    (refutation_from new c.args.cube.now c.of_ascending.result c.in_ok-number.number c.in_ok-step.step c.in_ok-number.ensures.kept c.in_ok-number.ensures.name
-    (subst (λ (part : List ℕ). All (Contains c.args.cube.now) part) (sym part_is) (λ k d lt. absurd (omega (arith, lt))))
+    (refutation_from new cube c.of_ascending.result c.in_ok-number.number c.in_ok-step.step c.in_ok-number.ensures.kept c.in_ok-number.ensures.name
+    (subst (λ (part : List ℕ). All (Contains cube) part) (sym part_is) (λ k d lt. absurd (omega (arith, lt))))
     (nothing_negated c.in_ok-step.step.clause c.of_ascending.result c.in_ok-step.ensures.clause part_is))

@@ -26,16 +26,16 @@ push_step-requires-clause-ok c =
     let derived = subst (λ clauses. Derives s.trail.entries step clauses s.units.items s.tags.items) c.arena.ensures.value
     (subst (λ units. Derives s.trail.entries step c.arena.result.now units s.tags.items) c.deref.ensures.value
     (subst (λ tags. Derives s.trail.entries step c.arena.result.now c.deref.result.now tags) c.deref-2.ensures.value c.in_ok-part.ensures.derived)) in
-    (derived (table_of s) (knows_arena s c.args.cube.now c.requires.kept) c.requires.units).ok
+    (derived (table_of s) (knows_arena s c.requires.kept) c.requires.units).ok
 
 pub returns-clause-last : goal.returns-clause-last
 returns-clause-last c = pushed_steps c.args.search.now.steps.items c.push_step.new.search.steps.items c.in_ok-part.step c.in_ok-number.number c.in_ok-number.ensures.pushed c.in_ok-number.ensures.number
 
 pub returns-clause-answer : goal.returns-clause-answer
-returns-clause-answer c =
+returns-clause-answer c = λ cube for_cube stands.
     let s = c.args.search.now in
     let new = c.push_step.new.search in
-    subst (λ (store : StoreView). IsRefutation (inputs_of store.clauses) new.steps.items c.args.cube.now c.in_ok-part.part c.in_ok-number.number) (ap (λ (x : Search). x.store) c.in_ok-number.ensures.parts)
-    (refutation_from new c.args.cube.now c.in_ok-part.part c.in_ok-number.number c.in_ok-part.step c.in_ok-number.ensures.kept c.in_ok-number.ensures.name
-    (part_within s.trail c.args.cube.now c.in_ok-part.part c.args.lit c.requires.trail c.requires.kept.on.for_cube c.in_ok-part.ensures.part c.requires.blame.stands c.requires.blame.refuted)
+    subst (λ (store : StoreView). IsRefutation (inputs_of store.clauses) new.steps.items cube c.in_ok-part.part c.in_ok-number.number) (ap (λ (x : Search). x.store) c.in_ok-number.ensures.parts)
+    (refutation_from new cube c.in_ok-part.part c.in_ok-number.number c.in_ok-part.step c.in_ok-number.ensures.kept c.in_ok-number.ensures.name
+    (part_within s.trail cube c.in_ok-part.part c.args.lit c.requires.kept.trail for_cube c.in_ok-part.ensures.part stands c.requires.refuted)
     c.in_ok-part.ensures.negation)

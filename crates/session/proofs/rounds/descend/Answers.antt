@@ -1,29 +1,23 @@
-use Rattle.std.proofs.Common.{[], refl, subst}
-use Rattle.session.specs.Searching.{HasStepsMore}
-use Rattle.session.specs.Rounds.{step_of_descent, step_of_end}
-use Rattle.session.proofs.Settled.{same_front, same_stepped, same_twice}
-use Rattle.session.proofs.Steps.{none_steps, steps_then}
+use Rattle.std.proofs.Common.{◌∙◌, [], refl, subst}
+use Rattle.std.specs.Prelude.{IfNone}
+use Rattle.session.specs.Searching.{solver_of}
+use Rattle.session.specs.Solving.{Learns}
+use Rattle.session.proofs.Keeping.{descent_behind}
+use Rattle.session.proofs.Repeats.{learns_none, learns_then}
 use Rattle.session.proofs.rounds.descend.Goals as goal
 
 pub loop-end-init : goal.loop-end-init
-loop-end-init c =
-    let s = c.args.search.now in
-    (c.requires.kept, c.requires.trail, same_stepped s s refl (same_front s.steps.items), none_steps s.steps.items)
+loop-end-init c = (c.requires.round, learns_none (solver_of c.args.search.now), refl)
 
-pub returns-in-Some-clause-steps : goal.returns-in-Some-clause-steps
-returns-in-Some-clause-steps c =
-    let old = c.args.search.now.steps.items in
-    let mid = c.loop-end.search.steps.items in
-    let new = c.advance.new.search.steps.items in
-    steps_then old mid new [] (step_of_descent c.in-Some.end) c.loop-end.invariant.3 (subst (λ end. HasStepsMore mid new (step_of_end end)) c.in-Some.is c.in_ok-end.ensures.steps)
+pub returns-in-Some-clause-descends : goal.returns-in-Some-clause-descends
+returns-in-Some-clause-descends c =
+    descent_behind c.args.search.now c.loop-end.search c.propagate_and_decide.new.search c.args.cube.now c.in_ok-end.field-0 c.in-Some.end c.loop-end.invariant.1 c.in-Some.is c.in_ok-end.ensures.ends
 
 pub loop-end-preserved : goal.loop-end-preserved
 loop-end-preserved c =
-    let old = c.args.search.now in
-    let mid = c.loop-end.search in
-    let new = c.advance.new.search in (
-      c.in_ok-end.ensures.kept,
-      c.in_ok-end.ensures.trail,
-      same_twice old mid new c.loop-end.invariant.2 c.in_ok-end.ensures.same,
-      steps_then old.steps.items mid.steps.items new.steps.items [] [] c.loop-end.invariant.3 (subst (λ end. HasStepsMore mid.steps.items new.steps.items (step_of_end end)) c.in-None.is c.in_ok-end.ensures.steps),
+    let mid = solver_of c.loop-end.search in
+    let new = solver_of c.propagate_and_decide.new.search in (
+      c.propagate_and_decide.ensures.round,
+      learns_then (solver_of c.args.search.now) mid new [] [] [] c.loop-end.invariant.1 (subst (λ end. IfNone end (Learns mid new [] [])) c.in-None.is c.in_ok-end.ensures.learns),
+      c.propagate_and_decide.ensures.vars ∙ c.loop-end.invariant.2,
     )

@@ -4,10 +4,10 @@ use Rattle.session.proofs.Searches.{same_steps, more_steps, last_named}
 use Rattle.session.proofs.search.push_step.Goals as goal
 
 pub returns-in_err-push-clause-kept : goal.returns-in_err-push-clause-kept
-returns-in_err-push-clause-kept c = same_steps c.args.search.now c.push.new.self c.args.cube.now c.in_err-push.ensures.items c.requires.kept
+returns-in_err-push-clause-kept c = same_steps c.args.search.now c.push.new.self c.in_err-push.ensures.items c.requires.kept
 
 pub returns-clause-kept : goal.returns-clause-kept
-returns-clause-kept c = more_steps c.args.search.now c.push.new.self c.args.step c.args.cube.now c.in_ok-push.ensures.items c.requires.ok c.requires.kept
+returns-clause-kept c = more_steps c.args.search.now c.push.new.self c.args.step c.in_ok-push.ensures.items c.requires.ok c.requires.kept
 
 pub returns-clause-name : goal.returns-clause-name
 returns-clause-name c = last_named c.args.search.now c.push.new.self c.args.step c.len.result c.in_ok-push.ensures.items (omega (arith, c.len.ensures))

@@ -19,7 +19,7 @@ marked c =
 
 pub returns-in-Ok-clause-kept : goal.returns-in-Ok-clause-kept
 returns-in-Ok-clause-kept c =
-    search_knows c.args.search.now (record c.args.search.now { packets = c.mark_known.new.packets }) c.args.cube.now c.args.place (arc_value c.args.packet.now) c.requires.kept refl (marked c) c.requires.unknown c.requires.held
+    search_knows c.args.search.now (record c.args.search.now { packets = c.mark_known.new.packets }) c.args.place (arc_value c.args.packet.now) c.requires.kept refl (marked c) c.requires.unknown c.requires.held
 
 pub returns-in-Ok-clause-ok : goal.returns-in-Ok-clause-ok
 returns-in-Ok-clause-ok c = record { same = refl; packets = marked c }
@@ -28,6 +28,6 @@ pub returns-in-Err-clause-kept : goal.returns-in-Err-clause-kept
 returns-in-Err-clause-kept c =
     let s = c.args.search.now in
     let (count, are) = c.reach.ensures.more in
-    search_unplaced s (record s { packets = c.truncate.new.self }) c.args.cube.now c.requires.kept refl refl
+    search_unplaced s (record s { packets = c.truncate.new.self }) c.requires.kept refl refl
     (ap (λ items. map (option_map arc_value) items) (c.truncate.ensures.items ∙ ap (take c.len-before.result) are
     ∙ ap (λ n. take n (s.packets.items ++ replicate count None)) (let e : c.len-before.result ≡ length s.packets.items = omega (arith, c.len-before.ensures) in e) ∙ take-append_seam s.packets.items (replicate count None)))

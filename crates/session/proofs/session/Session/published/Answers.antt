@@ -10,7 +10,6 @@ use Rattle.trace_trim.proofs.Order.{item_at-within}
 use Rattle.trace_trim.proofs.Packed.{packed_ends}
 use Rattle.session.specs.Solver.{Solver, IsStep, inputs_of, packet_at, shared_by}
 use Rattle.session.specs.Searching.{packets_of, solver_of}
-use Rattle.session.proofs.Reserved.{for_any_cube}
 use Rattle.session.proofs.Sound.{sound}
 use Rattle.session.specs.Session.{SessionView}
 use Rattle.session.specs.Publishing.{AreNamedAnew, AreNamesFit, Publishes}
@@ -21,13 +20,10 @@ use Rattle.session.proofs.session.Session.published.Goals as goal
 pub packed_numbers-requires-clause-earlier : goal.packed_numbers-requires-clause-earlier
 packed_numbers-requires-clause-earlier c =
     let s = c.self.inside.search in
-    subst CiteEarlierOwn (sym c.deref.ensures.value) (ok_look_back (inputs_of s.store.clauses) (shared_by (packets_of s)) s.steps.items (sound s [] (c.self.invariant.kept [])).ok)
+    subst CiteEarlierOwn (sym c.deref.ensures.value) (ok_look_back (inputs_of s.store.clauses) (shared_by (packets_of s)) s.steps.items (sound s c.self.invariant.kept).ok)
 
-pub know-known-requires-clause-kept : goal.know-known-requires-clause-kept
-know-known-requires-clause-kept c = c.self.invariant.kept c.of_ascending-cube.result
-
-pub know-known-requires-clause-held : goal.know-known-requires-clause-held
-know-known-requires-clause-held c =
+pub know-requires-clause-held : goal.know-requires-clause-held
+know-requires-clause-held c =
     let (one, is, held) = subst (λ (view : SessionView). (one : Known) × IsStep view.solver.steps c.args.step one × Contains view.solver.held one) (sym c.self.view_is) c.requires.held in
     let pack = subst (λ (view : SessionView). IsPack view.solver.steps view.names c.args.step (arc_value c.args.packet.now)) (sym c.self.view_is) c.requires.pack in
     record { one = one; last = packed_ends c.self.inside.search.steps.items c.self.inside.names.items c.args.step (arc_value c.args.packet.now) pack ∙ is; held = held }
@@ -46,7 +42,7 @@ there c =
 low : (c : goal.After-deref-in-Ok) → (number : ℕ) → Contains c.deref-in-Ok.result.now number → (1 ≤ number) × (number ≤ length c.reach.new.names.items)
 low c number has =
     let s = c.self.inside.search in
-    let earlier = ok_look_back (inputs_of s.store.clauses) (shared_by (packets_of s)) s.steps.items (sound s [] (c.self.invariant.kept [])).ok in
+    let earlier = ok_look_back (inputs_of s.store.clauses) (shared_by (packets_of s)) s.steps.items (sound s c.self.invariant.kept).ok in
     let within = packed_within s.steps.items c.self.inside.names.items c.args.step c.in_ok-numbers.numbers.items earlier (there c) (packed c) number (subst (λ (xs : List ℕ). Contains xs number) c.deref-in-Ok.ensures.value has) in
     (within.0, omega (arith, within.1, c.in_ok-reach.ensures.ok.2))
 
@@ -61,7 +57,7 @@ pub invariant_of-self-in-Ok : goal.invariant_of-self-in-Ok
 invariant_of-self-in-Ok c =
     let s = c.self.inside.search in
     let names = c.self.inside.names.items in
-    let e = c.know-known.ensures in
+    let e = c.know.ensures in
     let room = c.in_ok-reach.ensures.ok in
     let numbers = c.in_ok-numbers.numbers.items in
     let (one, is, held) = subst (λ (view : SessionView). (one : Known) × IsStep view.solver.steps c.args.step one × Contains view.solver.held one) (sym c.self.view_is) c.requires.held in
@@ -70,9 +66,9 @@ invariant_of-self-in-Ok c =
     (subst (λ (own : List Step). AreNumbersPacked own c.deref-2.result.now c.args.step numbers) c.deref.ensures.value c.in_ok-numbers.ensures) in
     let within = item_at-within s.steps.items c.args.step (step_there s.steps.items c.args.step one is) in
     record {
-      kept = λ other. for_any_cube c.know-known.new.search c.of_ascending-cube.result other e.kept c.depth.ensures.trail (e.depth ∙ c.self.invariant.zero);
+      kept = e.kept;
       zero = e.depth ∙ c.self.invariant.zero;
-      names = published_fit (solver_of s) (solver_of c.know-known.new.search) names c.reach.new.names.items c.name_steps.new.names.items c.args.step c.args.place (arc_value c.args.packet.now) numbers c.self.invariant.names
+      names = published_fit (solver_of s) (solver_of c.know.new.search) names c.reach.new.names.items c.name_steps.new.names.items c.args.step c.args.place (arc_value c.args.packet.now) numbers c.self.invariant.names
           c.in-Ok.ensures.ok (ap (λ (view : SessionView). packet_at view.solver.packets c.args.place) c.self.view_is ∙ c.requires.unknown) pack reached (λ number. grown names c.reach.new.names.items room.0 number room.1)
           (subst (AreNamedAnew c.reach.new.names.items c.name_steps.new.names.items c.args.place) c.deref-in-Ok.ensures.value c.name_steps.ensures.named)
           (omega (arith, c.name_steps.ensures.size, room.2, c.self.invariant.names.few, within.1));
@@ -85,7 +81,7 @@ returns-in-Ok-clause-ok c =
     let room = c.in_ok-reach.ensures.ok in
     let numbers = c.in_ok-numbers.numbers.items in
     let named = subst (AreNamedAnew c.reach.new.names.items c.name_steps.new.names.items c.args.place) c.deref-in-Ok.ensures.value c.name_steps.ensures.named in
-    subst (λ (view : SessionView). Publishes view (record { solver = solver_of c.know-known.new.search; names = c.name_steps.new.names.items }) c.args.step c.args.place (arc_value c.args.packet.now)) c.self.view_is (record {
+    subst (λ (view : SessionView). Publishes view (record { solver = solver_of c.know.new.search; names = c.name_steps.new.names.items }) c.args.step c.args.place (arc_value c.args.packet.now)) c.self.view_is (record {
       knows = c.in-Ok.ensures.ok;
       numbers = numbers;
       packed = subst (λ (xs : List (Option Ref)). AreNumbersPacked s.steps.items xs c.args.step numbers) c.deref-2.ensures.value
@@ -97,12 +93,12 @@ pub invariant_of-self-in-Err : goal.invariant_of-self-in-Err
 invariant_of-self-in-Err c =
     let s = c.self.inside.search in
     let names = c.self.inside.names.items in
-    let e = c.know-known.ensures in
+    let e = c.know.ensures in
     let room = c.in_ok-reach.ensures.ok in
     let same_names = c.truncate.ensures.items ∙ ap (take c.len-before.result) room.1
     ∙ ap (λ n. take n (names ++ replicate room.0 None)) (let n : c.len-before.result ≡ length names = omega (arith, c.len-before.ensures) in n) ∙ take-append_seam names (replicate room.0 None) in
     record {
-      kept = λ other. for_any_cube c.know-known.new.search c.of_ascending-cube.result other e.kept c.depth.ensures.trail (e.depth ∙ c.self.invariant.zero);
+      kept = e.kept;
       zero = e.depth ∙ c.self.invariant.zero;
       names = subst (λ (solver : Solver). AreNamesFit solver c.truncate.new.self.items) (sym c.in-Err.ensures.err) (subst (AreNamesFit (solver_of s)) (sym same_names) c.self.invariant.names);
     }

@@ -1,0 +1,62 @@
+use Rattle.std.proofs.Common.{◌≡◌, ℕ, List, [], ap, refl, sym, subst}
+use Rattle.clause_arena.specs.Arena.{lits_of_each}
+use Rattle.trail_core.specs.Trail.{Entry, TrailView}
+use Rattle.propagate.specs.Store.{StoreView, HasSameClauses}
+use Rattle.trail_core.specs.UnderTrail.{HasGrown}
+use Rattle.session.specs.declared.search.Search.{Search}
+use Rattle.session.specs.OnTrail.{AddsNoDecision, IsForCube}
+use Rattle.session.specs.Searching.{IsSearching, HasUnitsMore, solver_of}
+use Rattle.session.specs.Solving.{Learns}
+use Rattle.session.proofs.OnTrails.{cube_grown}
+use Rattle.session.proofs.Settled.{search_propagated}
+use Rattle.session.proofs.Keeping.{learns_propagated, learns_named}
+use Rattle.session.proofs.Repeats.{learns_then}
+use Rattle.session.proofs.propagation.propagate_and_name.Goals as goal
+
+-- propagation and then names
+named_then : (old new : Search) (store : StoreView) (trail : TrailView) → IsSearching old → HasSameClauses old.store.clauses store.clauses
+    → new ≡ record (record old { store = store; trail = trail }) { units = new.units; tags = new.tags; named = new.named; steps = new.steps } → HasUnitsMore old.steps.items new.steps.items
+    → Learns (solver_of old) (solver_of new) [] []
+named_then old new store trail kept same parts more =
+    learns_then (solver_of old) (solver_of (record old { store = store; trail = trail })) (solver_of new) [] [] []
+    (learns_propagated old store trail kept same)
+    (learns_named (record old { store = store; trail = trail }) new parts more)
+
+grown_then : (clauses : List (List ℕ)) (depth : ℕ) (old new : Search) (store : StoreView) (trail : TrailView) → HasGrown clauses depth old.trail.entries trail.entries
+    → new ≡ record (record old { store = store; trail = trail }) { units = new.units; tags = new.tags; named = new.named; steps = new.steps } → AddsNoDecision old.trail.entries new.trail.entries
+grown_then clauses depth old new store trail grown parts cube for_cube =
+    subst (λ (x : TrailView). IsForCube cube x.entries) (sym (ap (λ (x : Search). x.trail) parts)) (cube_grown clauses cube old.trail.entries trail.entries depth grown for_cube)
+
+pub name_zero-requires : goal.name_zero-requires
+name_zero-requires c =
+    let e = c.propagate-found.ensures in
+    record { kept = search_propagated c.args.search.now c.propagate-found.new.store c.propagate-found.new.trail c.requires.kept e.same e.store_vars e.grown (e.founded c.requires.kept.on.founded) e.depth e.vars c.depth.ensures.trail }
+
+pub returns-in_err-name_zero-in-None-clause-learns : goal.returns-in_err-name_zero-in-None-clause-learns
+returns-in_err-name_zero-in-None-clause-learns c =
+    named_then c.args.search.now c.name_zero.new.search c.propagate-found.new.store c.propagate-found.new.trail c.requires.kept c.propagate-found.ensures.same c.in_err-name_zero-in-None.ensures.parts c.in_err-name_zero-in-None.ensures.steps
+
+pub returns-in_err-name_zero-in-None-clause-decisions : goal.returns-in_err-name_zero-in-None-clause-decisions
+returns-in_err-name_zero-in-None-clause-decisions c =
+    grown_then (lits_of_each c.propagate-found.new.store.clauses) c.args.search.now.trail.depth c.args.search.now c.name_zero.new.search c.propagate-found.new.store c.propagate-found.new.trail c.propagate-found.ensures.grown c.in_err-name_zero-in-None.ensures.parts
+
+pub returns-in-Some-clause-kept : goal.returns-in-Some-clause-kept
+returns-in-Some-clause-kept c =
+    let e = c.propagate-found.ensures in
+    search_propagated c.args.search.now c.propagate-found.new.store c.propagate-found.new.trail c.requires.kept e.same e.store_vars e.grown (e.founded c.requires.kept.on.founded) e.depth e.vars c.depth.ensures.trail
+
+pub returns-in-Some-clause-learns : goal.returns-in-Some-clause-learns
+returns-in-Some-clause-learns c =
+    learns_propagated c.args.search.now c.propagate-found.new.store c.propagate-found.new.trail c.requires.kept c.propagate-found.ensures.same
+
+pub returns-in-Some-clause-decisions : goal.returns-in-Some-clause-decisions
+returns-in-Some-clause-decisions c = λ cube for_cube.
+    cube_grown (lits_of_each c.propagate-found.new.store.clauses) cube c.args.search.now.trail.entries c.propagate-found.new.trail.entries c.args.search.now.trail.depth c.propagate-found.ensures.grown for_cube
+
+pub returns-in_ok-name_zero-in-None-clause-learns : goal.returns-in_ok-name_zero-in-None-clause-learns
+returns-in_ok-name_zero-in-None-clause-learns c =
+    named_then c.args.search.now c.name_zero.new.search c.propagate-found.new.store c.propagate-found.new.trail c.requires.kept c.propagate-found.ensures.same c.in_ok-name_zero-in-None.ensures.parts c.in_ok-name_zero-in-None.ensures.steps
+
+pub returns-in_ok-name_zero-in-None-clause-decisions : goal.returns-in_ok-name_zero-in-None-clause-decisions
+returns-in_ok-name_zero-in-None-clause-decisions c =
+    grown_then (lits_of_each c.propagate-found.new.store.clauses) c.args.search.now.trail.depth c.args.search.now c.name_zero.new.search c.propagate-found.new.store c.propagate-found.new.trail c.propagate-found.ensures.grown c.in_ok-name_zero-in-None.ensures.parts

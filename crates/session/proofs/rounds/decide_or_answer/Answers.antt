@@ -1,0 +1,40 @@
+use Rattle.std.proofs.Common.{◌≤◌, ◌∷◌, [], ap, arith}
+use Rattle.sat_base.specs.Lit.{variable}
+use Rattle.sat_base.proofs.Members.{All-from_members}
+use Rattle.session.specs.Searching.{solver_of}
+use Rattle.session.proofs.UpTo.{below_greatest}
+use Rattle.session.proofs.Modelled.{model_of}
+use Rattle.session.proofs.Keeping.{keeps_itself, keeps_stepped, learns_decided, learns_keeps, model_concludes, refuted_concludes, round_decided, round_moved, round_stepped, search_moved}
+use Rattle.session.specs.declared.search.Search.{Search}
+use Rattle.session.proofs.rounds.decide_or_answer.Goals as goal
+
+pub next_move-requires-clause-within : goal.next_move-requires-clause-within
+next_move-requires-clause-within c =
+    All-from_members (λ lit. variable lit ≤ c.args.vars) c.args.cube.now (λ lit has. (let low = below_greatest c.args.cube.now lit has in omega (arith, low, c.requires.round.variables.are)))
+
+pub returns-in-Decide-clause-round : goal.returns-in-Decide-clause-round
+returns-in-Decide-clause-round c =
+    let s = c.args.search.now in
+    let mid : Search = record s { cursor = c.next_move.new.cursor } in
+    round_decided mid c.decide.new.search c.args.cube.now c.args.vars
+    (round_moved s c.next_move.new.cursor c.args.cube.now c.args.vars c.requires.round c.next_move.ensures.assigned)
+    c.decide.ensures.parts c.decide.ensures.vars c.decide.ensures.kept
+    (c.decide.ensures.decision c.args.cube.now c.in-Decide.ensures.next.allowed c.requires.round.for_cube)
+
+pub returns-in-Decide-clause-learns : goal.returns-in-Decide-clause-learns
+returns-in-Decide-clause-learns c =
+    let mid : Search = record c.args.search.now { cursor = c.next_move.new.cursor } in
+    learns_decided mid c.decide.new.search c.decide.ensures.parts
+
+pub returns-in_ok-part-in-Blame-clause-ends : goal.returns-in_ok-part-in-Blame-clause-ends
+returns-in_ok-part-in-Blame-clause-ends c =
+    let e = c.in_ok-part-in-Blame.ensures in
+    refuted_concludes (solver_of c.args.search.now) (solver_of c.refute_literal.new.search) c.args.cube.now c.in_ok-part-in-Blame.part c.in_ok-part-in-Blame.number
+    (ap solver_of e.parts) e.last (e.answer c.args.cube.now c.requires.round.for_cube c.in-Blame.ensures.next.stands)
+
+pub returns-in_ok-model-in-Stop-clause-ends : goal.returns-in_ok-model-in-Stop-clause-ends
+returns-in_ok-model-in-Stop-clause-ends c =
+    let s = c.args.search.now in
+    let r = c.requires.round in
+    model_concludes (solver_of s) c.args.cube.now c.in_ok-model-in-Stop.model
+    (model_of s c.args.cube.now c.args.vars c.in_ok-model-in-Stop.model r.kept r.variables.set r.variables.are c.requires.complete c.in-Stop.ensures.next c.in_ok-model-in-Stop.ensures)
