@@ -28,7 +28,8 @@ adds_cube old new before after numbered cube shown is same added none =
     record {
       queries = ap (queries_behind []) added
           ∙ queries_behind-append [] (segments before.journal) segment
-          ∙ ap (λ (s : Statement). queries_on before ++ jobs_after (clauses_read old before) (s ∷ []))
+          ∙ ap (λ (s : Statement). queries_on before ++ jobs_after (clauses_read old before)
+          (s ∷ []))
           stated;
       clauses = ap (λ (rest : List (List ℕ)). clauses_on after ++ rest) none
           ∙ append-nil (clauses_on after) ∙ ap (clauses_behind []) added
@@ -58,7 +59,8 @@ adds_on old mid new before between after first second one two =
     let jobs = jobs_after (clauses_read old before) (unnumbered first) in
     record {
       queries = two.queries
-          ∙ ap (λ (jobs : List Job). jobs ++ jobs_after (clauses_read mid between) (unnumbered second))
+          ∙ ap (λ (jobs : List Job). jobs ++ jobs_after (clauses_read mid between)
+          (unnumbered second))
           one.queries
           ∙ append_assoc (queries_on before) jobs
           (jobs_after (clauses_read mid between) (unnumbered second))
@@ -108,10 +110,13 @@ pub first_added : (old mid : Client) (before between after : State) (all left : 
 first_added old mid before between after all left to same =
     let read = clauses_read old before in
     let done = jobs_after (clauses_read old before) (unnumbered to.done) in
-    let rest = jobs_after (clauses_after (clauses_read old before) (unnumbered to.done)) (unnumbered left) in
+    let rest = jobs_after (clauses_after (clauses_read old before) (unnumbered to.done))
+    (unnumbered left) in
     record {
-      left = jobs_after (clauses_after (clauses_read old before) (unnumbered to.done)) (unnumbered left);
-      queries = ap (λ (list : List Numbered). queries_on before ++ jobs_after read (unnumbered list))
+      left = jobs_after (clauses_after (clauses_read old before) (unnumbered to.done))
+          (unnumbered left);
+      queries = ap (λ (list : List Numbered). queries_on before
+          ++ jobs_after read (unnumbered list))
           to.whole
           ∙ ap (λ (jobs : List Job). queries_on before ++ jobs) (more_jobs read to.done left)
           ∙ sym (append_assoc (queries_on before) done rest)

@@ -1,5 +1,7 @@
 -- The blocks of settled jobs.
-use Rattle.std.proofs.Common.{◌≡◌, ◌∙◌, ℕ, suc, ◌+◌, ◌≤◌, Bool, true, false, List, [], ◌∷◌, ◌++◌, length, map, take, Option, Some, refl, ap, sym, subst, arith, add-one, append_assoc, append-nil, cond}
+use Rattle.std.proofs.Common.{◌≡◌, ◌∙◌, ℕ, suc, ◌+◌, ◌≤◌, Bool, true, false, List, [], ◌∷◌, ◌++◌}
+use Rattle.std.proofs.Common.{length, map, take, Option, Some, refl, ap, sym, subst, arith, add-one}
+use Rattle.std.proofs.Common.{append_assoc, append-nil, cond}
 use Rattle.std.specs.Prelude.{filter, nat_le, max}
 use Rattle.std.specs.Arc.{arc_value}
 use Rattle.std.proofs.lemmas.List.{length-append, length-map, map-append}
@@ -16,7 +18,8 @@ use Rattle.entry_core.specs.declared.entries.Entry.{Entry}
 use Rattle.entry_core.specs.declared.rules.Rules.{Rules}
 use Rattle.entry_core.specs.declared.segments.Segment.{Segment}
 use Rattle.entry_core.specs.Causes.{HasCause as HasItsCause}
-use Rattle.entry_core.specs.Journal.{clauses_of, cube_in, cube_of, inputs, inputs_of, jobs, segments, tagged_from}
+use Rattle.entry_core.specs.Journal.{clauses_of, cube_in, cube_of, inputs, inputs_of, jobs}
+use Rattle.entry_core.specs.Journal.{segments, tagged_from}
 use Rattle.entry_core.specs.Law.{VerdictsHaveCauses}
 use Rattle.entry_core.specs.Legal.{IsLegal}
 use Rattle.entry_core.specs.Right.{IsRightAnswer}
@@ -30,52 +33,73 @@ use Rattle.tarmo_run.specs.Block.{AreBlocks, IsBlockOf}
 use Rattle.tarmo_run.specs.Client.{AreWithinVariables, clauses_behind, clauses_on}
 use Rattle.tarmo_run.specs.Writer.{TookBlocks, TookFront}
 use Rattle.tarmo_run.proofs.Cited.{ok_cite_earlier}
+use Rattle.tarmo_run.proofs.Queries.{tagged_clauses}
 use Rattle.tarmo_run.proofs.Variables.{within_set}
 
 -- how many inputs the next job has
-pub inputs_counted : (journal : List Entry) (written job count : ℕ) (segment : Segment) → job ≡ written + 1 → item_at (segments journal) job ≡ Some segment → count ≡ length (inputs_of journal written)
+pub inputs_counted : (journal : List Entry) (written job count : ℕ) (segment : Segment) →
+    job ≡ written + 1 → item_at (segments journal) job ≡ Some segment →
+    count ≡ length (inputs_of journal written)
     → count + length segment.clauses ≡ length (inputs_of journal job)
 inputs_counted journal written job count segment next is counted =
-    let one : length (map (λ (clause : List ℕ). record { clause = clause; tag = written + 1 }) segment.clauses) ≡ length segment.clauses = length-map {B = Known} segment.clauses (λ (clause : List ℕ). record { clause = clause; tag = written + 1 }) in
-    let all = ap length (inputs_of_one_more journal written segment (subst (λ n. item_at (segments journal) n ≡ Some segment) next is)) in
-    omega (arith, counted, one, all, length-append (inputs_of journal written) (map (λ (clause : List ℕ). record { clause = clause; tag = written + 1 }) segment.clauses), ap (λ n. length (inputs_of journal n)) next)
+    let one : length (map (λ (clause : List ℕ). record { clause = clause; tag = written + 1 })
+    segment.clauses) ≡ length segment.clauses =
+    length-map {B = Known} segment.clauses
+    (λ (clause : List ℕ). record { clause = clause; tag = written + 1 }) in
+    let all = ap length (inputs_of_one_more journal written segment
+    (subst (λ n. item_at (segments journal) n ≡ Some segment) next is)) in
+    let more = length-append (inputs_of journal written)
+    (map (λ (clause : List ℕ). record { clause = clause; tag = written + 1 }) segment.clauses) in
+    let same = ap (λ n. length (inputs_of journal n)) next in
+    omega (arith, counted, one, all, more, same)
 
 filter_le : {X : Type 0} (p : X → Bool) (xs : List X) → length (filter p xs) ≤ length xs
 filter_le p [] = omega arith
 filter_le {X} p (x ∷ xs) = by (p x) (filter p xs) (filter_le p xs)
   where
-    by : (b : Bool) (rest : List X) → length rest ≤ length xs → length (cond b (x ∷ rest) rest) ≤ suc (length xs)
+    by : (b : Bool) (rest : List X) → length rest ≤ length xs →
+        length (cond b (x ∷ rest) rest) ≤ suc (length xs)
     by true rest le = omega (arith, le)
     by false rest le = omega (arith, le)
 
 -- a job has no more clauses than a board may have
-pub inputs_few : (board : State) (job count : ℕ) → IsLegal board.rules board.journal → count ≡ length (inputs_of board.journal job) → count ≤ 16777216
+pub inputs_few : (board : State) (job count : ℕ) → IsLegal board.rules board.journal →
+    count ≡ length (inputs_of board.journal job) → count ≤ 16777216
 inputs_few board job count legal counted =
     let all = few_inputs board.rules board.journal legal in
     let some = filter_le (λ (input : Known). nat_le input.tag job) (inputs board.journal) in
     omega (arith, all, some, counted)
 
-filter_within : (p : Known → Bool) (knowns : List Known) → greatest_of_all (map (λ (one : Known). one.clause) (filter p knowns)) ≤ greatest_of_all (map (λ (one : Known). one.clause) knowns)
+filter_within : (p : Known → Bool) (knowns : List Known) →
+    greatest_of_all (map (λ (one : Known). one.clause) (filter p knowns))
+    ≤ greatest_of_all (map (λ (one : Known). one.clause) knowns)
 filter_within p [] = omega arith
 filter_within p (one ∷ knowns) = by (p one) (filter p knowns) (filter_within p knowns)
   where
-    by : (b : Bool) (rest : List Known) → greatest_of_all (map (λ (one : Known). one.clause) rest) ≤ greatest_of_all (map (λ (one : Known). one.clause) knowns)
-        → greatest_of_all (map (λ (one : Known). one.clause) (cond b (one ∷ rest) rest)) ≤ max (greatest_of one.clause) (greatest_of_all (map (λ (one : Known). one.clause) knowns))
+    by : (b : Bool) (rest : List Known) →
+        greatest_of_all (map (λ (one : Known). one.clause) rest)
+        ≤ greatest_of_all (map (λ (one : Known). one.clause) knowns)
+        → greatest_of_all (map (λ (one : Known). one.clause) (cond b (one ∷ rest) rest))
+        ≤ max (greatest_of one.clause) (greatest_of_all (map (λ (one : Known). one.clause) knowns))
     by true rest le = omega (arith, le)
     by false rest le = omega (arith, le)
 
-tagged_clauses : (tag : ℕ) (clauses : List (List ℕ)) → map (λ (one : Known). one.clause) (map (λ (clause : List ℕ). record { clause = clause; tag = tag }) clauses) ≡ clauses
-tagged_clauses tag [] = refl
-tagged_clauses tag (clause ∷ clauses) = ap (λ (rest : List (List ℕ)). clause ∷ rest) (tagged_clauses tag clauses)
-
 -- the clauses of all segments are those of all inputs
-all_clauses : (clauses : List (List ℕ)) (job : ℕ) (list : List Segment) → clauses_behind clauses list ≡ clauses ++ map (λ (one : Known). one.clause) (tagged_from job list)
+all_clauses : (clauses : List (List ℕ)) (job : ℕ) (list : List Segment) →
+    clauses_behind clauses list ≡ clauses ++ map (λ (one : Known). one.clause)
+    (tagged_from job list)
 all_clauses clauses job [] = sym (append-nil clauses)
 all_clauses clauses job (segment ∷ list) =
     all_clauses (clauses ++ segment.clauses) (suc job) list
-    ∙ append_assoc clauses segment.clauses (map (λ (one : Known). one.clause) (tagged_from (suc job) list))
-    ∙ ap (λ (first : List (List ℕ)). clauses ++ (first ++ map (λ (one : Known). one.clause) (tagged_from (suc job) list))) (sym (tagged_clauses job segment.clauses))
-    ∙ ap (λ (all : List (List ℕ)). clauses ++ all) (sym (map-append (λ (one : Known). one.clause) (map (λ (clause : List ℕ). record { clause = clause; tag = job }) segment.clauses) (tagged_from (suc job) list)))
+    ∙ append_assoc clauses segment.clauses
+    (map (λ (one : Known). one.clause) (tagged_from (suc job) list))
+    ∙ ap (λ (first : List (List ℕ)). clauses
+    ++ (first ++ map (λ (one : Known). one.clause) (tagged_from (suc job) list)))
+    (sym (tagged_clauses job segment.clauses))
+    ∙ ap (λ (all : List (List ℕ)). clauses ++ all)
+    (sym (map-append (λ (one : Known). one.clause)
+    (map (λ (clause : List ℕ). record { clause = clause; tag = job }) segment.clauses)
+    (tagged_from (suc job) list)))
 
 -- the variables of each job are within the greatest one
 clauses_within : (board : State) (job : ℕ) → AreWithinVariables (clauses_on board) →
@@ -85,22 +109,34 @@ clauses_within board job within =
     let some = filter_within (λ (input : Known). nat_le input.tag job) (inputs board.journal) in
     omega (arith, within, some, ap greatest_of_all all)
 
-printable_answer : (trace : Bool) (journal : List Entry) (job : ℕ) (given : Answer) → greatest_of_all (clauses_of journal job) ≤ 8388607 → IsLitSet (cube_of journal job) → IsRightAnswer journal job given
+printable_answer : (trace : Bool) (journal : List Entry) (job : ℕ) (given : Answer) →
+    greatest_of_all (clauses_of journal job) ≤ 8388607 → IsLitSet (cube_of journal job) →
+    IsRightAnswer journal job given
     → IsPrintable (length (inputs_of journal job)) (shown_of_answer trace given)
-printable_answer trace journal job (answer.Model values) within set right = omega (arith, right.size, within, within_set (cube_of journal job) set)
-printable_answer true journal job (answer.Refuted part steps) within set right = ok_cite_earlier (inputs_of journal job) steps right.1.ok
+printable_answer trace journal job (answer.Model values) within set right =
+    omega (arith, right.size, within, within_set (cube_of journal job) set)
+printable_answer true journal job (answer.Refuted part steps) within set right =
+    ok_cite_earlier (inputs_of journal job) steps right.1.ok
 printable_answer false journal job (answer.Refuted part steps) within set right = tt
 
-printable_verdict : (trace : Bool) (rules : Rules) (journal : List Entry) (job : ℕ) (given copy : Verdict) → greatest_of_all (clauses_of journal job) ≤ 8388607 → IsLitSet (cube_of journal job) → HasItsCause rules journal job given → IsSame given copy
+printable_verdict : (trace : Bool) (rules : Rules) (journal : List Entry) (job : ℕ)
+    (given copy : Verdict) → greatest_of_all (clauses_of journal job) ≤ 8388607 →
+    IsLitSet (cube_of journal job) → HasItsCause rules journal job given → IsSame given copy
     → IsPrintable (length (inputs_of journal job)) (shown_of trace copy)
 printable_verdict trace rules journal job given (verdict.Cancelled by) within set cause same = tt
 printable_verdict trace rules journal job given verdict.Spent within set cause same = tt
 printable_verdict trace rules journal job given verdict.Starved within set cause same = tt
-printable_verdict trace rules journal job (verdict.Answered one) (verdict.Answered other) within set cause same =
-    subst (λ (given : Answer). IsPrintable (length (inputs_of journal job)) (shown_of_answer trace given)) same (printable_answer trace journal job (arc_value one) within set cause)
-printable_verdict trace rules journal job (verdict.Cancelled by) (verdict.Answered other) within set cause same = absurd same
-printable_verdict trace rules journal job verdict.Spent (verdict.Answered other) within set cause same = absurd same
-printable_verdict trace rules journal job verdict.Starved (verdict.Answered other) within set cause same = absurd same
+printable_verdict trace rules journal job (verdict.Answered one) (verdict.Answered other) within set
+    cause same =
+    subst (λ (given : Answer). IsPrintable (length (inputs_of journal job))
+    (shown_of_answer trace given)) same
+    (printable_answer trace journal job (arc_value one) within set cause)
+printable_verdict trace rules journal job (verdict.Cancelled by) (verdict.Answered other) within set
+    cause same = absurd same
+printable_verdict trace rules journal job verdict.Spent (verdict.Answered other) within set cause
+    same = absurd same
+printable_verdict trace rules journal job verdict.Starved (verdict.Answered other) within set cause
+    same = absurd same
 
 -- the block of a job's verdict can be printed
 pub block_printable : (trace : Bool) (board : State) (job count : ℕ) (copy : Verdict)
@@ -116,8 +152,10 @@ block_printable trace board job count copy segment law legal within has counted 
     (printable_verdict trace board.rules board.journal job has.given copy
     (clauses_within board job within) (subst IsLitSet (sym cube) set) cause has.same)
 
-same_shown : (trace : Bool) (given copy : Verdict) → IsSame given copy → shown_of trace copy ≡ shown_of trace given
-same_shown trace (verdict.Answered one) (verdict.Answered other) same = ap (shown_of_answer trace) (sym same)
+same_shown : (trace : Bool) (given copy : Verdict) → IsSame given copy →
+    shown_of trace copy ≡ shown_of trace given
+same_shown trace (verdict.Answered one) (verdict.Answered other) same =
+    ap (shown_of_answer trace) (sym same)
 same_shown trace (verdict.Answered one) (verdict.Cancelled by) same = absurd same
 same_shown trace (verdict.Answered one) verdict.Spent same = absurd same
 same_shown trace (verdict.Answered one) verdict.Starved same = absurd same
@@ -135,37 +173,52 @@ same_shown trace verdict.Starved verdict.Spent same = absurd same
 same_shown trace verdict.Starved verdict.Starved same = refl
 
 -- what is printed of a copy of the verdict is the job's block
-pub block_right : (trace : Bool) (board : State) (job count : ℕ) (copy : Verdict) (text : List ℕ) → HasVerdict board job copy → count ≡ length (inputs_of board.journal job)
-    → IsBlock count (record { job = job; shown = shown_of trace copy }) text → IsBlockOf trace board job text
+pub block_right : (trace : Bool) (board : State) (job count : ℕ) (copy : Verdict) (text : List ℕ) →
+    HasVerdict board job copy → count ≡ length (inputs_of board.journal job)
+    → IsBlock count (record { job = job; shown = shown_of trace copy }) text →
+    IsBlockOf trace board job text
 block_right trace board job count copy text has counted block = record {
   given = has.given;
   is = has.is;
-  block = subst (λ n. IsBlock n (record { job = job; shown = shown_of trace has.given }) text) counted
-      (subst (λ (shown : Shown). IsBlock count (record { job = job; shown = shown }) text) (same_shown trace has.given copy has.same) block);
+  block = subst (λ n. IsBlock n (record { job = job; shown = shown_of trace has.given }) text)
+      counted
+      (subst (λ (shown : Shown). IsBlock count (record { job = job; shown = shown }) text)
+      (same_shown trace has.given copy has.same) block);
 }
 
 -- one block more
-pub blocks_more : (trace : Bool) (board : State) (written job : ℕ) (blocks block : List ℕ) → job ≡ written + 1 → AreBlocks trace board written blocks → IsBlockOf trace board job block → AreBlocks trace board job (blocks ++ block)
+pub blocks_more : (trace : Bool) (board : State) (written job : ℕ) (blocks block : List ℕ) →
+    job ≡ written + 1 → AreBlocks trace board written blocks → IsBlockOf trace board job block →
+    AreBlocks trace board job (blocks ++ block)
 blocks_more trace board written job blocks block next are is =
     let same : job ≡ suc written = next ∙ add-one written in
-    subst (λ n. AreBlocks trace board n (blocks ++ block)) (sym same) (blocks, block, are, subst (λ n. IsBlockOf trace board n block) same is, refl)
+    subst (λ n. AreBlocks trace board n (blocks ++ block)) (sym same)
+    (blocks, block, are, subst (λ n. IsBlockOf trace board n block) same is, refl)
 
-pub wrote_one : (trace : Bool) (board : State) (written job : ℕ) (block : List ℕ) (before now after : Option (List ℕ)) → job ≡ written + 1 → IsBlockOf trace board job block → after ≡ appended now block
+pub wrote_one : (trace : Bool) (board : State) (written job : ℕ) (block : List ℕ)
+    (before now after : Option (List ℕ)) → job ≡ written + 1 → IsBlockOf trace board job block →
+    after ≡ appended now block
     → TookBlocks trace board written before now → TookBlocks trace board job before after
 wrote_one trace board written job block before now after next is more took = record {
   blocks = took.blocks ++ block;
   right = blocks_more trace board written job took.blocks block next took.right is;
-  taken = more ∙ ap (λ taken. appended taken block) took.taken ∙ appended_twice before took.blocks block;
+  taken = more ∙ ap (λ taken. appended taken block) took.taken
+      ∙ appended_twice before took.blocks block;
 }
 
-pub broke_one : (trace : Bool) (board : State) (written job size : ℕ) (block : List ℕ) (before now after : Option (List ℕ)) → job ≡ written + 1 → job ≤ jobs board.journal → IsBlockOf trace board job block → size ≤ length block → after ≡ appended now (take size block)
+pub broke_one : (trace : Bool) (board : State) (written job size : ℕ) (block : List ℕ)
+    (before now after : Option (List ℕ)) → job ≡ written + 1 → job ≤ jobs board.journal →
+    IsBlockOf trace board job block → size ≤ length block → after ≡ appended now (take size block)
     → TookBlocks trace board written before now → TookFront trace board before after
-broke_one trace board written job size block before now after next few is within more took = record {
-  count = job;
-  few = few;
-  blocks = took.blocks ++ block;
-  right = blocks_more trace board written job took.blocks block next took.right is;
-  size = length took.blocks + size;
-  within = omega (arith, length-append took.blocks block, within);
-  taken = more ∙ ap (λ taken. appended taken (take size block)) took.taken ∙ appended_twice before took.blocks (take size block) ∙ ap (appended before) (sym (take-append-add took.blocks block size));
-}
+broke_one trace board written job size block before now after next few is within more took =
+    record {
+      count = job;
+      few = few;
+      blocks = took.blocks ++ block;
+      right = blocks_more trace board written job took.blocks block next took.right is;
+      size = length took.blocks + size;
+      within = omega (arith, length-append took.blocks block, within);
+      taken = more ∙ ap (λ taken. appended taken (take size block)) took.taken
+          ∙ appended_twice before took.blocks (take size block)
+          ∙ ap (appended before) (sym (take-append-add took.blocks block size));
+    }

@@ -1,5 +1,6 @@
 -- What stays of a board when entries come behind its own.
-use Rattle.std.proofs.Common.{◌≡◌, ◌∙◌, ℕ, zero, suc, ◌≤◌, Bool, Some, None, List, [], ◌∷◌, ◌++◌, length, refl, ap, sym, subst, arith, append_assoc, append-nil}
+use Rattle.std.proofs.Common.{◌≡◌, ◌∙◌, ℕ, zero, suc, ◌≤◌, Bool, Some, None, List, [], ◌∷◌, ◌++◌}
+use Rattle.std.proofs.Common.{length, refl, ap, sym, subst, arith, append_assoc, append-nil}
 use Rattle.std.specs.Prelude.{All, IsSome, Option, filter_map, IsTrue, not, ◌==◌}
 use Rattle.std.specs.List.{cons_option}
 use Rattle.std.proofs.lemmas.List.Elements.{All-head, All-tail, filter_map-append}
@@ -25,19 +26,23 @@ use Rattle.tarmo_run.specs.Growth.{HasJobsMore, HasNoJobMore, IsLonger}
 use Rattle.tarmo_run.specs.Output.{AreSettled}
 
 keeps : (old new : State) (longer : IsLonger old new) → Keeps old.rules old.journal new.journal
-keeps old new longer = subst (λ journal. Keeps old.rules old.journal journal) (sym longer.is) (longer_journal_keeps old.rules old.journal longer.more)
+keeps old new longer = subst (λ journal. Keeps old.rules old.journal journal) (sym longer.is)
+    (longer_journal_keeps old.rules old.journal longer.more)
 
-block_stays : (trace : Bool) (old new : State) (job : ℕ) (text : List ℕ) → IsLonger old new → job ≤ jobs old.journal → IsBlockOf trace old job text → IsBlockOf trace new job text
+block_stays : (trace : Bool) (old new : State) (job : ℕ) (text : List ℕ) → IsLonger old new →
+    job ≤ jobs old.journal → IsBlockOf trace old job text → IsBlockOf trace new job text
 block_stays trace old new job text longer few block =
     let k = keeps old new longer in
     record {
       given = block.given;
-      is = ap (λ (rules : Rules). settled rules new.journal job) longer.rules ∙ k.verdicts job block.given block.is;
+      is = ap (λ (rules : Rules). settled rules new.journal job) longer.rules
+          ∙ k.verdicts job block.given block.is;
       block = rw (k.inputs job few) block.block;
     }
 
 -- blocks of the first jobs are blocks of a longer board too
-pub blocks_stay : (trace : Bool) (old new : State) (count : ℕ) (text : List ℕ) → IsLonger old new → count ≤ jobs old.journal → AreBlocks trace old count text → AreBlocks trace new count text
+pub blocks_stay : (trace : Bool) (old new : State) (count : ℕ) (text : List ℕ) → IsLonger old new →
+    count ≤ jobs old.journal → AreBlocks trace old count text → AreBlocks trace new count text
 blocks_stay trace old new zero text longer few are = are
 blocks_stay trace old new (suc job) text longer few are = (
   are.0,
@@ -47,7 +52,8 @@ blocks_stay trace old new (suc job) text longer few are = (
   are.4,
 )
 
-some_stays : {X : Type 0} (old new : Option X) → ((x : X) → old ≡ Some x → new ≡ Some x) → IsSome old → IsSome new
+some_stays : {X : Type 0} (old new : Option X) → ((x : X) → old ≡ Some x → new ≡ Some x) →
+    IsSome old → IsSome new
 some_stays None new kept some = absurd (cc)
 some_stays (Some x) new kept some = subst IsSome (sym (kept x refl)) some
 
@@ -58,14 +64,21 @@ pub longer_on : (old mid new : State) → IsLonger old mid → IsLonger mid new 
 longer_on old mid new one two = record {
   rules = two.rules ∙ one.rules;
   more = one.more ++ two.more;
-  is = two.is ∙ ap (λ journal. journal ++ two.more) one.is ∙ append_assoc old.journal one.more two.more;
+  is = two.is ∙ ap (λ journal. journal ++ two.more) one.is
+      ∙ append_assoc old.journal one.more two.more;
 }
 
 pub no_job_none : (board : State) → HasNoJobMore board board
 no_job_none board = record { longer = longer_none board; segments = refl }
 
-pub no_job_on : (old mid new : State) → HasNoJobMore old mid → HasNoJobMore mid new → HasNoJobMore old new
-no_job_on old mid new one two = record { longer = longer_on old mid new one.longer two.longer; segments = two.segments ∙ one.segments }
+pub no_job_on : (old mid new : State) → HasNoJobMore old mid → HasNoJobMore mid new →
+    HasNoJobMore old new
+no_job_on old mid new one two =
+    record {
+      longer = longer_on old mid new one.longer two.longer;
+      segments = two.segments
+          ∙ one.segments;
+    }
 
 pub jobs_none : (board : State) → HasJobsMore board board
 jobs_none board = record {
@@ -74,7 +87,8 @@ jobs_none board = record {
   resting = λ caller resting. resting;
 }
 
-pub jobs_on : (old mid new : State) → HasJobsMore old mid → HasJobsMore mid new → HasJobsMore old new
+pub jobs_on : (old mid new : State) → HasJobsMore old mid → HasJobsMore mid new →
+    HasJobsMore old new
 jobs_on old mid new one two = record {
   longer = longer_on old mid new one.longer two.longer;
   none_cancelled = two.none_cancelled ∙ one.none_cancelled;
@@ -82,10 +96,16 @@ jobs_on old mid new one two = record {
 }
 
 -- an entry that adds no job
-pub no_job_one : (old : State) (caller : ℕ) (happened : Event) → segment_of happened ≡ None → HasNoJobMore old (entered old caller happened)
+pub no_job_one : (old : State) (caller : ℕ) (happened : Event) → segment_of happened ≡ None →
+    HasNoJobMore old (entered old caller happened)
 no_job_one old caller happened none = record {
-  longer = record { rules = refl; more = record { caller = caller; event = happened } ∷ []; is = refl };
-  segments = unread (λ (e : Entry). segment_of e.event) old.journal (record { caller = caller; event = happened }) none;
+  longer = record {
+    rules = refl;
+    more = record { caller = caller; event = happened } ∷ [];
+    is = refl;
+  };
+  segments = unread (λ (e : Entry). segment_of e.event) old.journal
+      (record { caller = caller; event = happened }) none;
 }
 
 -- what was settled stays settled
@@ -93,21 +113,33 @@ pub settled_stay : (old new : State) → HasNoJobMore old new → AreSettled old
 settled_stay old new more all job there =
     let k = keeps old new more.longer in
     some_stays (settled old.rules old.journal job) (settled new.rules new.journal job)
-    (λ given is. ap (λ (rules : Rules). settled rules new.journal job) more.longer.rules ∙ k.verdicts job given is)
-    (all job (record { from_one = there.from_one; added = subst (λ n. job ≤ n) (ap length more.segments) there.added }))
+    (λ given is. ap (λ (rules : Rules). settled rules new.journal job) more.longer.rules
+    ∙ k.verdicts job given is)
+    (all job (record {
+      from_one = there.from_one;
+      added = subst (λ n. job ≤ n) (ap length more.segments) there.added;
+    }))
 
 -- a job that is settled stays so on a longer board
-pub one_stays : (old new : State) (job : ℕ) → IsLonger old new → IsSome (settled old.rules old.journal job) → IsSome (settled new.rules new.journal job)
+pub one_stays : (old new : State) (job : ℕ) → IsLonger old new →
+    IsSome (settled old.rules old.journal job) → IsSome (settled new.rules new.journal job)
 one_stays old new job longer some =
     some_stays (settled old.rules old.journal job) (settled new.rules new.journal job)
-    (λ given is. ap (λ (rules : Rules). settled rules new.journal job) longer.rules ∙ (keeps old new longer).verdicts job given is) some
+    (λ given is. ap (λ (rules : Rules). settled rules new.journal job) longer.rules
+    ∙ (keeps old new longer).verdicts job given is) some
 
 -- entries that a reading doesn't see
-nothing_read : {X : Type 0} (read : Event → Option X) (more : List Entry) → ((e : Event) → IsOfAttempt e → read e ≡ None) → All (λ (entry : Entry). IsOfAttempt entry.event) more → filter_map (λ (entry : Entry). read entry.event) more ≡ []
+nothing_read : {X : Type 0} (read : Event → Option X) (more : List Entry) →
+    ((e : Event) → IsOfAttempt e → read e ≡ None) →
+    All (λ (entry : Entry). IsOfAttempt entry.event) more →
+    filter_map (λ (entry : Entry). read entry.event) more ≡ []
 nothing_read read [] none all = refl
 nothing_read {X} read (entry ∷ more) none all =
-    ap (λ (found : Option X). cons_option found (filter_map (λ (entry : Entry). read entry.event) more)) (none entry.event (All-head (λ (entry : Entry). IsOfAttempt entry.event) entry more all))
-    ∙ nothing_read read more none (All-tail (λ (entry : Entry). IsOfAttempt entry.event) entry more all)
+    ap (λ (found : Option X). cons_option found
+    (filter_map (λ (entry : Entry). read entry.event) more))
+    (none entry.event (All-head (λ (entry : Entry). IsOfAttempt entry.event) entry more all))
+    ∙ nothing_read read more none
+    (All-tail (λ (entry : Entry). IsOfAttempt entry.event) entry more all)
 
 no_segment : (e : Event) → IsOfAttempt e → segment_of e ≡ None
 no_segment (event.Added segment) is = absurd is
@@ -131,36 +163,54 @@ no_cancel (event.Dropped number) is = refl
 no_cancel (event.Decided number given) is = refl
 no_cancel (event.Starved number) is = refl
 
-same_jobs : (old new : State) (caller : ℕ) → HasAttemptsMore old new caller → segments new.journal ≡ segments old.journal
+same_jobs : (old new : State) (caller : ℕ) → HasAttemptsMore old new caller →
+    segments new.journal ≡ segments old.journal
 same_jobs old new caller work =
-    ap segments work.is ∙ segments-append old.journal work.more ∙ ap (λ xs. segments old.journal ++ xs) (nothing_read segment_of work.more no_segment work.attempts) ∙ append-nil (segments old.journal)
+    ap segments work.is ∙ segments-append old.journal work.more
+    ∙ ap (λ xs. segments old.journal ++ xs)
+    (nothing_read segment_of work.more no_segment work.attempts) ∙ append-nil (segments old.journal)
 
 -- attempts add no job
-pub work_adds_none : (old new : State) (caller : ℕ) → HasAttemptsMore old new caller → HasNoJobMore old new
-work_adds_none old new caller work = record { longer = record { rules = work.rules; more = work.more; is = work.is }; segments = same_jobs old new caller work }
+pub work_adds_none : (old new : State) (caller : ℕ) → HasAttemptsMore old new caller →
+    HasNoJobMore old new
+work_adds_none old new caller work =
+    record {
+      longer = record { rules = work.rules; more = work.more; is = work.is };
+      segments = same_jobs old new caller work;
+    }
 
 -- and cancel none
-pub work_cancels_none : (old new : State) (caller : ℕ) → HasAttemptsMore old new caller → cancelled new.journal ≡ cancelled old.journal
+pub work_cancels_none : (old new : State) (caller : ℕ) → HasAttemptsMore old new caller →
+    cancelled new.journal ≡ cancelled old.journal
 work_cancels_none old new caller work =
-    ap cancelled work.is ∙ filter_map-append (λ (entry : Entry). cancelled_by entry.event) old.journal work.more
-    ∙ ap (λ xs. cancelled old.journal ++ xs) (nothing_read cancelled_by work.more no_cancel work.attempts) ∙ append-nil (cancelled old.journal)
+    ap cancelled work.is ∙ filter_map-append (λ (entry : Entry). cancelled_by entry.event)
+    old.journal work.more
+    ∙ ap (λ xs. cancelled old.journal ++ xs)
+    (nothing_read cancelled_by work.more no_cancel work.attempts)
+    ∙ append-nil (cancelled old.journal)
 
 -- an entry that neither begins nor ends an attempt leaves the open attempts
-pub rests_still : (old new : State) (entry : Entry) (caller : ℕ) → new.journal ≡ old.journal ++ entry ∷ [] → begun_by entry.caller entry.event ≡ None → ended_by entry.event ≡ None → IsResting old caller → IsResting new caller
+pub rests_still : (old new : State) (entry : Entry) (caller : ℕ) →
+    new.journal ≡ old.journal ++ entry ∷ [] → begun_by entry.caller entry.event ≡ None →
+    ended_by entry.event ≡ None → IsResting old caller → IsResting new caller
 rests_still old new entry caller is begins ends resting number own =
-    let same : attempts new.journal ≡ attempts old.journal = ap attempts is ∙ same_attempts old.journal entry begins in
-    let ends_same : ended new.journal ≡ ended old.journal = ap ended is ∙ unread (λ (e : Entry). ended_by e.event) old.journal entry ends in
+    let same : attempts new.journal ≡ attempts old.journal =
+    ap attempts is ∙ same_attempts old.journal entry begins in
+    let ends_same : ended new.journal ≡ ended old.journal =
+    ap ended is ∙ unread (λ (e : Entry). ended_by e.event) old.journal entry ends in
     resting number (record {
       begun = own.begun;
       running = record {
         found = ap (λ (list : List Attempt). item_at list number) (sym same) ∙ own.running.found;
         own = own.running.own;
-        open_yet = subst (λ (list : List ℕ). IsTrue (not (list_any (λ n. n == own.begun.number) list))) ends_same own.running.open_yet;
+        open_yet = subst (λ (list : List ℕ). IsTrue
+            (not (list_any (λ n. n == own.begun.number) list))) ends_same own.running.open_yet;
       };
     })
 
 -- a session that fits a journal fits a longer one
-pub fits_longer : (solver : Solver) (old new : State) → IsLonger old new → Fits solver old.journal → Fits solver new.journal
+pub fits_longer : (solver : Solver) (old new : State) → IsLonger old new → Fits solver old.journal →
+    Fits solver new.journal
 fits_longer solver old new longer fits =
     let k = keeps old new longer in
     record {
@@ -170,7 +220,8 @@ fits_longer solver old new longer fits =
     }
 
 -- the inputs of a job stay
-pub inputs_stay : (old new : State) (job : ℕ) → IsLonger old new → job ≤ jobs old.journal → inputs_of new.journal job ≡ inputs_of old.journal job
+pub inputs_stay : (old new : State) (job : ℕ) → IsLonger old new → job ≤ jobs old.journal →
+    inputs_of new.journal job ≡ inputs_of old.journal job
 inputs_stay old new job longer few = (keeps old new longer).inputs job few
 
 pub more_jobs : (old new : State) → IsLonger old new → jobs old.journal ≤ jobs new.journal

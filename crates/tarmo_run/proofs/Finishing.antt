@@ -1,5 +1,6 @@
 -- From the pieces of a text to the whole output, and to the board that is given back.
-use Rattle.std.proofs.Common.{◌≡◌, ◌∙◌, ℕ, ◌+◌, ◌≤◌, List, [], ◌++◌, length, take, Option, Bool, refl, ap, sym, subst, inl, inr}
+use Rattle.std.proofs.Common.{◌≡◌, ◌∙◌, ℕ, ◌+◌, ◌≤◌, List, [], ◌++◌, length, take, Option, Bool}
+use Rattle.std.proofs.Common.{refl, ap, sym, subst, inl, inr}
 use Rattle.std.specs.Prelude.{◌⊎◌}
 use Rattle.std.proofs.lemmas.List.{take-append-le}
 use Rattle.std.proofs.Math.Seq.{take-append-add}
@@ -12,14 +13,16 @@ use Rattle.board_core.specs.State.{State}
 use Rattle.icnf_text.specs.Jobs.{Job}
 use Rattle.tarmo_run.specs.declared.desk.Desk.{Desk}
 use Rattle.tarmo_run.specs.declared.endings.Ending.{Ending}
-use Rattle.tarmo_run.specs.declared.endings.Ending.TheVariants.{Complete, Refused, Unread, Exhausted}
+use Rattle.tarmo_run.specs.declared.endings.Ending.TheVariants.{Complete, Refused, Unread}
+use Rattle.tarmo_run.specs.declared.endings.Ending.TheVariants.{Exhausted}
 use Rattle.tarmo_run.specs.declared.words.Command.{Command}
 use Rattle.tarmo_run.specs.Block.{AreBlocks}
 use Rattle.tarmo_run.specs.Client.{queries_behind, queries_on}
 use Rattle.tarmo_run.specs.Desk.{IsFresh}
 use Rattle.tarmo_run.specs.Growth.{HasNoJobMore}
 use Rattle.tarmo_run.specs.Ended.{Finished, FinishedInPart, TookFrontOfLine}
-use Rattle.tarmo_run.specs.Output.{AreSettled, IsEnding, IsOutput, IsRun, PutFirst, Reading, UnlessExhausted, last_line_of, queries_in, status_of}
+use Rattle.tarmo_run.specs.Output.{AreSettled, IsEnding, IsOutput, IsRun, PutFirst, Reading}
+use Rattle.tarmo_run.specs.Output.{UnlessExhausted, last_line_of, queries_in, status_of}
 use Rattle.tarmo_run.specs.Reading.{AsksFirst, IsThrough, ReadsInPart, ReadsThrough}
 use Rattle.tarmo_run.specs.Words.{rules_of}
 use Rattle.tarmo_run.specs.Writer.{HasAllBlocks, HasWritten, TookFront}
@@ -27,104 +30,153 @@ use Rattle.tarmo_run.proofs.Boards.{blocks_stay, settled_stay}
 use Rattle.tarmo_run.proofs.Queries.{queries_put}
 
 -- nothing is written yet
-pub none_written : (trace : Bool) (desk : Desk) (before : Option (List ℕ)) → IsFresh desk → HasWritten trace desk.writer desk.board before before
+pub none_written : (trace : Bool) (desk : Desk) (before : Option (List ℕ)) → IsFresh desk →
+    HasWritten trace desk.writer desk.board before before
 none_written trace desk before fresh = record {
   blocks = [];
   right = subst (λ n. AreBlocks trace desk.board n []) (sym fresh.written) refl;
   taken = sym (appended_nothing before);
 }
 
-unless : (ending : Ending) (P Q : Type 0) → (P → Q) → UnlessExhausted ending P → UnlessExhausted ending Q
+unless : (ending : Ending) (P Q : Type 0) → (P → Q) → UnlessExhausted ending P →
+    UnlessExhausted ending Q
 unless (Complete count) P Q f p = f p
 unless (Refused fault) P Q f p = f p
 unless Unread P Q f p = f p
 unless Exhausted P Q f p = tt
 
-told_unless : (ending told : Ending) (P : Type 0) → (told ≡ ending) ⊎ (told ≡ Exhausted) → UnlessExhausted ending P → UnlessExhausted told P
+told_unless : (ending told : Ending) (P : Type 0) → (told ≡ ending) ⊎ (told ≡ Exhausted) →
+    UnlessExhausted ending P → UnlessExhausted told P
 told_unless ending told P (inl same) p = subst (λ (e : Ending). UnlessExhausted e P) (sym same) p
-told_unless ending told P (inr memory) p = subst (λ (e : Ending). UnlessExhausted e P) (sym memory) tt
+told_unless ending told P (inr memory) p =
+    subst (λ (e : Ending). UnlessExhausted e P) (sym memory) tt
 
-told_ends : (ending told : Ending) (reading : Reading) → (told ≡ ending) ⊎ (told ≡ Exhausted) → IsEnding ending reading → IsEnding told reading
-told_ends ending told reading (inl same) ends = subst (λ (e : Ending). IsEnding e reading) (sym same) ends
-told_ends ending told reading (inr memory) ends = subst (λ (e : Ending). IsEnding e reading) (sym memory) tt
+told_ends : (ending told : Ending) (reading : Reading) → (told ≡ ending) ⊎ (told ≡ Exhausted) →
+    IsEnding ending reading → IsEnding told reading
+told_ends ending told reading (inl same) ends =
+    subst (λ (e : Ending). IsEnding e reading) (sym same) ends
+told_ends ending told reading (inr memory) ends =
+    subst (λ (e : Ending). IsEnding e reading) (sym memory) tt
 
 abbrev begun_still : (reading : Reading) (old new : State) → HasNoJobMore old new →
     AsksFirst reading old → AsksFirst reading new
 begun_still reading old new more begun = record {
   left = begun.left;
-  queries = begun.queries ∙ ap (λ (jobs : List Job). jobs ++ begun.left) (ap (queries_behind []) (sym more.segments));
+  queries = begun.queries ∙ ap (λ (jobs : List Job). jobs ++ begun.left)
+      (ap (queries_behind []) (sym more.segments));
 }
 
 -- the blocks and a last line are an output
-output_of : (trace : Bool) (ending told : Ending) (reading : Reading) (old : Desk) (new : State) (blocks : List ℕ) → IsThrough ending reading old → (told ≡ ending) ⊎ (told ≡ Exhausted) → HasNoJobMore old.board new → old.writer.written ≤ jobs old.board.journal
-    → AreBlocks trace old.board old.writer.written blocks → IsOutput trace told reading new (blocks ++ last_line_of told)
+output_of : (trace : Bool) (ending told : Ending) (reading : Reading) (old : Desk) (new : State)
+    (blocks : List ℕ) → IsThrough ending reading old → (told ≡ ending) ⊎ (told ≡ Exhausted) →
+    HasNoJobMore old.board new → old.writer.written ≤ jobs old.board.journal
+    → AreBlocks trace old.board old.writer.written blocks →
+    IsOutput trace told reading new (blocks ++ last_line_of told)
 output_of trace ending told reading old new blocks through which more few are = record {
   ends = told_ends ending told reading which through.ends;
   count = old.writer.written;
   few = subst (λ n. old.writer.written ≤ n) (ap length (sym more.segments)) few;
   all = told_unless ending told (old.writer.written ≡ jobs new.journal) which
-      (unless ending ((through.begun.left ≡ []) × HasAllBlocks old.writer old.board) (old.writer.written ≡ jobs new.journal) (λ done. done.1.written ∙ ap length (sym more.segments)) through.all);
+      (unless ending ((through.begun.left ≡ []) × HasAllBlocks old.writer old.board)
+      (old.writer.written ≡ jobs new.journal) (λ done. done.1.written
+      ∙ ap length (sym more.segments)) through.all);
   blocks = blocks;
   right = blocks_stay trace old.board new old.writer.written blocks more.longer few are;
   written = refl;
 }
 
-pub finished : (trace : Bool) (ending told : Ending) (left_before left_after : Option (List ℕ)) (ended failed : Bool) (old : Desk) (new : State) (before middle after : Option (List ℕ)) →
-    ReadsThrough ending left_before left_after ended failed old → HasWritten trace old.writer old.board before middle → old.writer.written ≤ jobs old.board.journal → HasNoJobMore old.board new → cancelled new.journal ≡ [] →
-    (told ≡ ending) ⊎ (told ≡ Exhausted) → after ≡ appended middle (last_line_of told) → Finished trace told left_before left_after ended failed new before after
-finished trace ending told left_before left_after ended failed old new before middle after reads took few more uncancelled which line =
+pub finished : (trace : Bool) (ending told : Ending) (left_before left_after : Option (List ℕ))
+    (ended failed : Bool) (old : Desk) (new : State) (before middle after : Option (List ℕ)) →
+    ReadsThrough ending left_before left_after ended failed old →
+    HasWritten trace old.writer old.board before middle →
+    old.writer.written ≤ jobs old.board.journal → HasNoJobMore old.board new →
+    cancelled new.journal ≡ [] →
+    (told ≡ ending) ⊎ (told ≡ Exhausted) → after ≡ appended middle (last_line_of told) →
+    Finished trace told left_before left_after ended failed new before after
+finished trace ending told left_before left_after ended failed old new before middle after reads
+    took few more uncancelled which line =
     let reading : Reading = record { bytes = reads.bytes; ended = ended; failed = failed } in
     record {
       bytes = reads.bytes;
       gave = reads.gave;
       text = took.blocks ++ last_line_of told;
-      output = output_of trace ending told reading old new took.blocks reads.through which more few took.right;
-      taken = line ∙ ap (λ taken. appended taken (last_line_of told)) took.taken ∙ appended_twice before took.blocks (last_line_of told);
+      output = output_of trace ending told reading old new took.blocks reads.through which more few
+          took.right;
+      taken = line ∙ ap (λ taken. appended taken (last_line_of told)) took.taken
+          ∙ appended_twice before took.blocks (last_line_of told);
       begun = begun_still reading old.board new more reads.through.begun;
       all = told_unless ending told ((reads.through.begun.left ≡ []) × AreSettled new) which
-          (unless ending ((reads.through.begun.left ≡ []) × HasAllBlocks old.writer old.board) ((reads.through.begun.left ≡ []) × AreSettled new) (λ done. (done.0, settled_stay old.board new more done.1.settled)) reads.through.all);
+          (unless ending ((reads.through.begun.left ≡ []) × HasAllBlocks old.writer old.board)
+          ((reads.through.begun.left ≡ []) × AreSettled new)
+          (λ done. (done.0, settled_stay old.board new more done.1.settled)) reads.through.all);
       none_cancelled = uncancelled;
     }
 
-pub finished_in_line : (trace : Bool) (ending : Ending) (left_before left_after : Option (List ℕ)) (ended failed : Bool) (old : Desk) (new : State) (before middle after : Option (List ℕ)) →
-    ReadsThrough ending left_before left_after ended failed old → HasWritten trace old.writer old.board before middle → old.writer.written ≤ jobs old.board.journal → HasNoJobMore old.board new →
-    TookFrontOfLine ending middle after → FinishedInPart trace left_before left_after ended failed new before after
-finished_in_line trace ending left_before left_after ended failed old new before middle after reads took few more front =
+pub finished_in_line : (trace : Bool) (ending : Ending) (left_before left_after : Option (List ℕ))
+    (ended failed : Bool) (old : Desk) (new : State) (before middle after : Option (List ℕ)) →
+    ReadsThrough ending left_before left_after ended failed old →
+    HasWritten trace old.writer old.board before middle →
+    old.writer.written ≤ jobs old.board.journal → HasNoJobMore old.board new →
+    TookFrontOfLine ending middle after →
+    FinishedInPart trace left_before left_after ended failed new before after
+finished_in_line trace ending left_before left_after ended failed old new before middle after reads
+    took few more front =
     let reading : Reading = record { bytes = reads.bytes; ended = ended; failed = failed } in
     record {
       bytes = reads.bytes;
       gave = reads.gave;
       ending = front.told;
       text = took.blocks ++ last_line_of front.told;
-      output = output_of trace ending front.told reading old new took.blocks reads.through front.which more few took.right;
+      output = output_of trace ending front.told reading old new took.blocks reads.through
+          front.which more few took.right;
       size = length took.blocks + front.size;
-      taken = front.taken ∙ ap (λ taken. appended taken (take front.size (last_line_of front.told))) took.taken
+      taken = front.taken ∙ ap (λ taken. appended taken (take front.size (last_line_of front.told)))
+          took.taken
           ∙ appended_twice before took.blocks (take front.size (last_line_of front.told))
-          ∙ ap (appended before) (sym (take-append-add took.blocks (last_line_of front.told) front.size));
+          ∙ ap (appended before)
+          (sym (take-append-add took.blocks (last_line_of front.told) front.size));
       begun = begun_still reading old.board new more reads.through.begun;
     }
 
-pub finished_in_blocks : (trace : Bool) (left_before left_after : Option (List ℕ)) (ended failed : Bool) (board : State) (before after : Option (List ℕ)) →
-    ReadsInPart left_before left_after ended failed board → TookFront trace board before after → FinishedInPart trace left_before left_after ended failed board before after
-finished_in_blocks trace left_before left_after ended failed board before after reads front = record {
-  bytes = reads.bytes;
-  gave = reads.gave;
-  ending = Exhausted;
-  text = front.blocks ++ last_line_of Exhausted;
-  output = record { ends = tt; count = front.count; few = front.few; all = tt; blocks = front.blocks; right = front.right; written = refl };
-  size = front.size;
-  taken = front.taken ∙ ap (appended before) (sym (take-append-le front.size front.blocks (last_line_of Exhausted) front.within));
-  begun = reads.begun;
-}
+pub finished_in_blocks : (trace : Bool) (left_before left_after : Option (List ℕ))
+    (ended failed : Bool) (board : State) (before after : Option (List ℕ)) →
+    ReadsInPart left_before left_after ended failed board → TookFront trace board before after →
+    FinishedInPart trace left_before left_after ended failed board before after
+finished_in_blocks trace left_before left_after ended failed board before after reads front =
+    record {
+      bytes = reads.bytes;
+      gave = reads.gave;
+      ending = Exhausted;
+      text = front.blocks ++ last_line_of Exhausted;
+      output = record {
+        ends = tt;
+        count = front.count;
+        few = front.few;
+        all = tt;
+        blocks = front.blocks;
+        right = front.right;
+        written = refl;
+      };
+      size = front.size;
+      taken = front.taken ∙ ap (appended before)
+          (sym (take-append-le front.size front.blocks (last_line_of Exhausted) front.within));
+      begun = reads.begun;
+    }
 
-put_first : (reading : Reading) (board : State) (begun : AsksFirst reading board) → PutFirst board.journal (queries_in reading.bytes reading.ended) begun.left
-put_first reading board begun = record { done = queries_on board; whole = begun.queries; put = queries_put board.journal }
+put_first : (reading : Reading) (board : State) (begun : AsksFirst reading board) →
+    PutFirst board.journal (queries_in reading.bytes reading.ended) begun.left
+put_first reading board begun =
+    record { done = queries_on board; whole = begun.queries; put = queries_put board.journal }
 
 -- the whole output was taken, and the board is given back
-pub ran_through : (command : Command) (ending : Ending) (left_before left_after : Option (List ℕ)) (ended failed : Bool) (board : State) (before after : Option (List ℕ)) (status : ℕ) →
-    board.rules ≡ rules_of command → IsLegal board.rules board.journal → status ≡ status_of ending board → Finished command.trace ending left_before left_after ended failed board before after →
+pub ran_through : (command : Command) (ending : Ending) (left_before left_after : Option (List ℕ))
+    (ended failed : Bool) (board : State) (before after : Option (List ℕ)) (status : ℕ) →
+    board.rules ≡ rules_of command → IsLegal board.rules board.journal →
+    status ≡ status_of ending board →
+    Finished command.trace ending left_before left_after ended failed board before after →
     IsRun command left_before left_after ended failed before after status board
-ran_through command ending left_before left_after ended failed board before after status rules legal told f =
+ran_through command ending left_before left_after ended failed board before after status rules legal
+    told f =
     let reading : Reading = record { bytes = f.bytes; ended = ended; failed = failed } in
     record {
       rules = rules;
@@ -139,28 +191,37 @@ ran_through command ending left_before left_after ended failed board before afte
         told = told;
         left = f.begun.left;
         put = put_first reading board f.begun;
-        all_put = unless ending ((f.begun.left ≡ []) × AreSettled board) (f.begun.left ≡ []) (λ all. all.0) f.all;
-        all_settled = unless ending ((f.begun.left ≡ []) × AreSettled board) (AreSettled board) (λ all. all.1) f.all;
+        all_put = unless ending ((f.begun.left ≡ []) × AreSettled board) (f.begun.left ≡ [])
+            (λ all. all.0) f.all;
+        all_settled = unless ending ((f.begun.left ≡ []) × AreSettled board) (AreSettled board)
+            (λ all. all.1) f.all;
         none_cancelled = f.none_cancelled;
       });
     }
 
-output_still : (trace : Bool) (ending : Ending) (reading : Reading) (old new : State) (text : List ℕ) → HasNoJobMore old new → IsOutput trace ending reading old text → IsOutput trace ending reading new text
+output_still : (trace : Bool) (ending : Ending) (reading : Reading) (old new : State)
+    (text : List ℕ) → HasNoJobMore old new → IsOutput trace ending reading old text →
+    IsOutput trace ending reading new text
 output_still trace ending reading old new text more output = record {
   ends = output.ends;
   count = output.count;
   few = subst (λ n. output.count ≤ n) (ap length (sym more.segments)) output.few;
-  all = unless ending (output.count ≡ jobs old.journal) (output.count ≡ jobs new.journal) (λ all. all ∙ ap length (sym more.segments)) output.all;
+  all = unless ending (output.count ≡ jobs old.journal) (output.count ≡ jobs new.journal)
+      (λ all. all ∙ ap length (sym more.segments)) output.all;
   blocks = output.blocks;
   right = blocks_stay trace old new output.count output.blocks more.longer output.few output.right;
   written = output.written;
 }
 
 -- the sink failed, and what wasn't settled was cancelled
-pub ran_in_part : (command : Command) (left_before left_after : Option (List ℕ)) (ended failed : Bool) (old new : State) (before after : Option (List ℕ)) (status : ℕ) →
-    new.rules ≡ rules_of command → IsLegal new.rules new.journal → status ≡ 4 → HasNoJobMore old new → AreSettled new → FinishedInPart command.trace left_before left_after ended failed old before after →
+pub ran_in_part : (command : Command) (left_before left_after : Option (List ℕ))
+    (ended failed : Bool) (old new : State) (before after : Option (List ℕ)) (status : ℕ) →
+    new.rules ≡ rules_of command → IsLegal new.rules new.journal → status ≡ 4 →
+    HasNoJobMore old new → AreSettled new →
+    FinishedInPart command.trace left_before left_after ended failed old before after →
     IsRun command left_before left_after ended failed before after status new
-ran_in_part command left_before left_after ended failed old new before after status rules legal told more settled f =
+ran_in_part command left_before left_after ended failed old new before after status rules legal told
+    more settled f =
     let reading : Reading = record { bytes = f.bytes; ended = ended; failed = failed } in
     let begun = begun_still reading old new more f.begun in
     record {

@@ -27,7 +27,8 @@ pub one_segment_more : (old new : State) (segment : Arc Segment Global) (value :
     segments new.journal ≡ segments old.journal ++ value ∷ []
 one_segment_more old new segment value is same =
     ap (λ (b : State). segments b.journal) is
-    ∙ read_on (λ (e : Entry). segment_of e.event) old.journal (adding segment) (arc_value segment) refl
+    ∙ read_on (λ (e : Entry). segment_of e.event) old.journal (adding segment)
+    (arc_value segment) refl
     ∙ ap (λ (s : Segment). segments old.journal ++ s ∷ []) same
 
 pub jobs_by : (old new : State) (segment : Arc Segment Global) →
@@ -37,5 +38,6 @@ jobs_by old new segment is = record {
   none_cancelled = ap (λ (b : State). cancelled b.journal) is
       ∙ unread (λ (e : Entry). cancelled_by e.event) old.journal (adding segment) refl;
   resting = λ caller resting.
-      rests_still old new (adding segment) caller (ap (λ (b : State). b.journal) is) refl refl resting;
+      rests_still old new (adding segment) caller (ap (λ (b : State). b.journal) is) refl refl
+      resting;
 }

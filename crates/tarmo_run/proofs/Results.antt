@@ -7,7 +7,8 @@ OnErr-always (Ok x) p = tt
 OnErr-always (Err e) p = p
 
 -- what holds of the fault holds of the result that has it
-pub match_err : {T E : Type 0} (r : Result T E) (fault : E) (P : T → Type 0) (Q : E → Type 0) → r ≡ Err fault → Q fault → MatchResult r P Q
+pub match_err : {T E : Type 0} (r : Result T E) (fault : E) (P : T → Type 0) (Q : E → Type 0) →
+    r ≡ Err fault → Q fault → MatchResult r P Q
 match_err (Ok x) fault P Q is q = cc
 match_err (Err e) fault P Q is q = let same : e ≡ fault = cc in rw same q
 

@@ -41,7 +41,8 @@ within_with : (board : State) (pending pending' : List (List ℕ)) → pending' 
     AreWithinVariables (clauses_on board ++ pending) →
     AreWithinVariables (clauses_on board ++ pending')
 within_with board pending pending' same within =
-    subst (λ (rest : List (List ℕ)). AreWithinVariables (clauses_on board ++ rest)) (sym same) within
+    subst (λ (rest : List (List ℕ)). AreWithinVariables (clauses_on board ++ rest))
+    (sym same) within
 
 -- a clause is kept, or isn't
 pub within_kept : (result : Result Unit AllocError) (old new : Client) (board : State)

@@ -38,7 +38,7 @@ clauses_on board = clauses_behind [] (segments board.journal)
 abbrev pub clauses_read : Client → State → List (List ℕ)
 clauses_read client board = clauses_on board ++ client.pending.items
 
--- the greatest variable that literals may have
+-- no variable of the clauses is above 8,388,607, the greatest one that a literal may have
 abbrev pub AreWithinVariables : List (List ℕ) → Type 0
 AreWithinVariables clauses = greatest_of_all clauses ≤ 8388607
 

@@ -37,27 +37,29 @@ const SINK_FAILED: u8 = 4;
 /// What a run gives back.
 #[derive(Debug, Drop)]
 pub struct Finish {
-    /// The first of these that stands: 5 where the words aren't accepted; 4 where the sink failed; 6 where memory ran out,
-    /// for the run or for a job; 3 where the source failed; 2 where the text has a wrong place; 1 where a job was given up;
-    /// 0 otherwise.
+    /// The first of these that stands: 5 where the words aren't accepted; 4 where the sink failed;
+    /// 6 where memory ran out, for the run or for a job; 3 where the source failed; 2 where the
+    /// text has a wrong place; 1 where a job was given up; 0 otherwise.
     pub status: u8,
-    /// The board with the text's jobs and their verdicts. None where the words aren't accepted, or where there was no
-    /// memory for a board.
+    /// The board with the text's jobs and their verdicts. None where the words aren't accepted, or
+    /// where there was no memory for a board.
     pub board: Option<Board>,
 }
 
-/// The whole of `tarmo` on the caller's own thread, but for making the real things: reads the text that the
-/// source gives in pieces of at most 65,536 bytes, adds the jobs that a piece ended to a board, makes attempts at them until each
-/// is settled, writes their blocks before it reads on, and gives back the status and the board.
+/// The whole of `tarmo` on the caller's own thread, but for making the real things: reads the text
+/// that the source gives in pieces of at most 65,536 bytes, adds the jobs that a piece ended to a
+/// board, makes attempts at them until each is settled, writes their blocks before it reads on, and
+/// gives back the status and the board.
 ///
-/// The words are options in any order, each once at most: `--trace`, and then each refuted part's block has its trace;
-/// `--conflicts` and as the next word how many clauses an attempt may learn, 1 to 18446744073709551615, which is the default;
-/// `--attempts` and how many attempts a job has, 1 to 64, by default 1.
+/// The words are options in any order, each once at most: `--trace`, and then each refuted part's
+/// block has its trace; `--conflicts` and as the next word how many clauses an attempt may learn, 1
+/// to 18446744073709551615, which is the default; `--attempts` and how many attempts a job has, 1
+/// to 64, by default 1.
 ///
-/// It stops reading at the end of the text, at its first wrong place, where the source fails, and where memory
-/// runs out; a text without end has a wrong place. Each block and the last line are handed to the sink
-/// as pieces of their own, and one flush follows the last line; after a failed write or flush nothing more is
-/// written, and jobs that aren't settled are cancelled.
+/// It stops reading at the end of the text, at its first wrong place, where the source fails, and
+/// where memory runs out; a text without end has a wrong place. Each block and the last line are
+/// handed to the sink as pieces of their own, and one flush follows the last line; after a failed
+/// write or flush nothing more is written, and jobs that aren't settled are cancelled.
 pub fn run_alone<S: Source, O: Sink>(
     alloc: Global,
     words: &[String],
@@ -69,21 +71,37 @@ pub fn run_alone<S: Source, O: Sink>(
     requires unread { S.ended source.old ≡ false }
 
     ensures words { (result.status ≡ 5) ↔ (accepted (map string_bytes words.now) ≡ None) }
-    ensures untouched { accepted (map string_bytes words.now) ≡ None → (source.new ≡ source.old) × (out.new ≡ out.old) × (result.board ≡ None) }
-    ensures run { (command : Command) → accepted (map string_bytes words.now) ≡ Some command → MatchOption result.board
-        (HadNoBoard (S.left source.old) (S.left source.new) (O.taken out.old) (O.taken out.new) result.status)
-        (IsRun command (S.left source.old) (S.left source.new) (S.ended source.new) (nat_lt (S.faults source.old) (S.faults source.new)) (O.taken out.old) (O.taken out.new) result.status) }
-    ensures causes { IfSome result.board (λ board. (job : ℕ) (given : Verdict) → settled board.rules board.journal job ≡ Some given → HasItsCause board.rules board.journal job given) }
-    ensures budget { IfSome result.board (λ board. (job : ℕ) → settled board.rules board.journal job ≡ Some verdict.Spent → board.rules.conflicts ≤ 3 ^ variables (clauses_of board.journal job) (cube_of board.journal job)) }
+    ensures untouched { accepted (map string_bytes words.now) ≡ None →
+        (source.new ≡ source.old) × (out.new ≡ out.old) × (result.board ≡ None) }
+    ensures run { (command : Command) → accepted (map string_bytes words.now) ≡ Some command →
+        MatchOption result.board
+        (HadNoBoard (S.left source.old) (S.left source.new) (O.taken out.old) (O.taken out.new)
+        result.status)
+        (IsRun command (S.left source.old) (S.left source.new) (S.ended source.new)
+        (nat_lt (S.faults source.old) (S.faults source.new))
+        (O.taken out.old) (O.taken out.new) result.status) }
+    ensures causes { IfSome result.board (λ board. (job : ℕ) (given : Verdict) →
+        settled board.rules board.journal job ≡ Some given →
+        HasItsCause board.rules board.journal job given) }
+    ensures budget { IfSome result.board (λ board. (job : ℕ) →
+        settled board.rules board.journal job ≡ Some verdict.Spent →
+        board.rules.conflicts
+        ≤ 3 ^ variables (clauses_of board.journal job) (cube_of board.journal job)) }
     ensures whole { S.ended source.new ≡ true → IsEmptyWhereTold (S.left source.new) }
 
-    ensures complete { (command : Command) (text : List ℕ) → accepted (map string_bytes words.now) ≡ Some command →
-        S.left source.old ≡ Some text → S.faults source.new ≡ S.faults source.old → O.faults out.new ≡ O.faults out.old →
-        MatchOption result.board (result.status ≡ 6) (λ board. IsAnswered command.trace text (O.taken out.old) (O.taken out.new) result.status board ⊎ (result.status ≡ 6)) }
+    ensures complete { (command : Command) (text : List ℕ) →
+        accepted (map string_bytes words.now) ≡ Some command → S.left source.old ≡ Some text →
+        S.faults source.new ≡ S.faults source.old → O.faults out.new ≡ O.faults out.old →
+        MatchOption result.board (result.status ≡ 6)
+        (λ board. IsAnswered command.trace text (O.taken out.old) (O.taken out.new)
+        result.status board ⊎ (result.status ≡ 6)) }
 
     ensures sink { (result.status ≡ 4) ↔ (O.faults out.old < O.faults out.new) }
-    ensures source { (result.status ≡ 3) ↔ ((S.faults source.old < S.faults source.new) × (result.status ≢ 4) × (result.status ≢ 6)) }
-    ensures counts { (S.faults source.old ≤ S.faults source.new) × (O.faults out.old ≤ O.faults out.new) }
+    ensures source { (result.status ≡ 3)
+        ↔ ((S.faults source.old < S.faults source.new)
+        × (result.status ≢ 4) × (result.status ≢ 6)) }
+    ensures counts { (S.faults source.old ≤ S.faults source.new)
+        × (O.faults out.old ≤ O.faults out.new) }
 {
     verdicts_have_causes();
     large_budgets_answer();
@@ -106,8 +124,10 @@ pub fn run_alone<S: Source, O: Sink>(
 fn show_want_of_memory<O: Sink>(out: &mut O) -> u8
     requires sink_faults { O.faults out.old < last_count }
     ensures status { (result ≡ 6) ⊎ (result ≡ 4) }
-    ensures whole { result ≡ 6 → O.taken out.new ≡ appended (O.taken out.old) (last_line_of endings.Exhausted) }
-    ensures front { result ≡ 4 → (size : ℕ) × (O.taken out.new ≡ appended (O.taken out.old) (take size (last_line_of endings.Exhausted))) }
+    ensures whole { result ≡ 6 →
+        O.taken out.new ≡ appended (O.taken out.old) (last_line_of endings.Exhausted) }
+    ensures front { result ≡ 4 → (size : ℕ) × (O.taken out.new
+        ≡ appended (O.taken out.old) (take size (last_line_of endings.Exhausted))) }
     ensures sink { (result ≡ 4) ↔ (O.faults out.old < O.faults out.new) }
     ensures counts { O.faults out.old ≤ O.faults out.new }
 {
@@ -136,7 +156,8 @@ fn run_over<S: Source, O: Sink>(
         (O.taken out.old) (O.taken out.new) result.status) }
     ensures whole { S.ended source.new ≡ true → IsEmptyWhereTold (S.left source.new) }
     ensures sink { (result.status ≡ 4) ↔ (O.faults out.old < O.faults out.new) }
-    ensures counts { (S.faults source.old ≤ S.faults source.new) × (O.faults out.old ≤ O.faults out.new) }
+    ensures counts { (S.faults source.old ≤ S.faults source.new)
+        × (O.faults out.old ≤ O.faults out.new) }
 {
     let mut desk = Desk::new(alloc, board);
     match solve(alloc, command.trace, &mut desk, source, out) {

@@ -1,4 +1,5 @@
-//! What a client does at a board: it adds jobs, says that no more come, cancels, and asks for verdicts.
+//! What a client does: it adds jobs to a board, says that no more come, cancels, and asks for
+//! verdicts.
 
 ghost use Rattle.std.specs.Prelude.{◌≡◌, ◌++◌, ◌∷◌, [], None, IfOk, IfSome, OnOk, OnErr};
 ghost use Rattle.sat_base.specs.Lit.{IsLitSet};
@@ -6,7 +7,8 @@ ghost use Rattle.entry_core.specs.Journal.{segments};
 ghost use Rattle.entry_core.specs.Legal.{IsClient};
 ghost use Rattle.entry_core.specs.Settled.{cancelled, settled};
 ghost use Rattle.board_core.specs.Replies.{HasVerdict, IsJob};
-ghost use Rattle.tarmo_run.specs.Client.{Adds, AddsFirst, AreWithinVariables, clauses_read, queries_on};
+ghost use Rattle.tarmo_run.specs.Client.{Adds, AddsFirst, AreWithinVariables, clauses_read};
+ghost use Rattle.tarmo_run.specs.Client.{queries_on};
 ghost use Rattle.tarmo_run.specs.Growth.{HasJobsMore, HasNoJobMore};
 ghost use Rattle.tarmo_run.specs.Output.{AreSettled};
 
@@ -38,7 +40,8 @@ impl Client {
         }
     }
 
-    /// Adds a job to the board for each cube of the statements. Where memory runs out, the jobs before are there.
+    /// Adds a job to the board for each cube of the statements. Where memory runs out, the jobs
+    /// before are there.
     pub(crate) fn add_all(
         &mut self,
         board: &mut Board,
@@ -74,10 +77,12 @@ impl Client {
     // Keeps the clause for the next job.
     fn keep(&mut self, clause: Clause) -> Result<(), AllocError>
         ensures set { IsLitSet clause }
-        ensures kept { OnOk result (self.new.pending.items ≡ self.old.pending.items ++ clause ∷ []) }
+        ensures kept { OnOk result
+            (self.new.pending.items ≡ self.old.pending.items ++ clause ∷ []) }
         ensures err { OnErr result (self.new.pending.items ≡ self.old.pending.items) }
     {
-        // Its literals tell that a clause is a set of literals, whose variables are within their limit.
+        // Its literals tell that a clause is a set of literals, whose variables are within their
+        // limit.
         let _ = clause.lits();
         if self.pending.push(clause).is_err() {
             return Err(AllocError);
@@ -85,13 +90,13 @@ impl Client {
         Ok(())
     }
 
-    // Adds the job of a cube, with the clauses since the last one. What a text can have a board can have, so only want
-    // of memory refuses it.
+    // Adds the job of a cube, with the clauses since the last one. What a text can have a board can
+    // have, so only want of memory refuses it.
     fn add_job(&mut self, board: &mut Board, cube: Cube) -> Result<(), AllocError>
         requires client { IsClient board.old.rules 1 }
         ensures more { HasJobsMore board.old board.new }
-        ensures added { OnOk result (segments board.new.journal
-            ≡ segments board.old.journal ++ record { clauses = self.old.pending.items; cube = cube } ∷ []) }
+        ensures added { OnOk result (segments board.new.journal ≡ segments board.old.journal
+            ++ record { clauses = self.old.pending.items; cube = cube } ∷ []) }
         ensures err { OnErr result (board.new ≡ board.old) }
         ensures none_left { self.new.pending.items ≡ [] }
     {

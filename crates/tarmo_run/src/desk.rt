@@ -1,5 +1,5 @@
-//! What the run on one thread has at hand: a board, its client and its writer, and the session of the
-//! worker.
+//! What the run on one thread has at hand: a board, its client and its writer, and the session of
+//! the worker.
 
 ghost use Rattle.std.specs.Prelude.{◌≡◌, [], OnOk};
 ghost use Rattle.tarmo_run.specs.Client.{Adds, AddsFirst};
@@ -46,8 +46,8 @@ impl Desk {
         }
     }
 
-    /// Adds a job for each cube of the statements, and works until each job is settled. Where memory runs out, the
-    /// jobs that were added before are settled, if there is memory for that.
+    /// Adds a job for each cube of the statements, and works until each job is settled. Where
+    /// memory runs out, the jobs that were added before are settled, if there is memory for that.
     pub(crate) fn advance(&mut self, list: Vec<Numbered>) -> Result<(), AllocError>
         requires between { IsBetweenPieces self.old }
         ensures between { IsBetweenPieces self.new }

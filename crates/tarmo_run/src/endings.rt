@@ -1,13 +1,15 @@
 //! How a run ends.
 
-ghost use Rattle.std.specs.Prelude.{◌≡◌, ◌++◌, ◌⊎◌, ℕ, if◌then◌else◌, take, IfOk, OnErr, OnOk, MatchResult, codes};
+ghost use Rattle.std.specs.Prelude.{◌≡◌, ◌++◌, ◌⊎◌, ℕ, if◌then◌else◌, take, IfOk, OnErr, OnOk};
+ghost use Rattle.std.specs.Prelude.{MatchResult, codes};
 ghost use Rattle.std.specs.Fmt.{decimal};
 ghost use Rattle.entry_core.specs.Journal.{jobs};
 ghost use Rattle.entry_core.specs.Settled.{settled};
 ghost use Rattle.board_core.specs.Replies.{IsJob};
 ghost use Rattle.run_io.specs.Bytes.{appended};
 ghost use Rattle.run_io.specs.Fault.{HasCause};
-ghost use Rattle.tarmo_run.specs.Output.{is_one_so, is_undecided, lacking, lacks_by, last_line_of, reason_text, status_of};
+ghost use Rattle.tarmo_run.specs.Output.{is_one_so, is_undecided, lacking, lacks_by, last_line_of};
+ghost use Rattle.tarmo_run.specs.Output.{reason_text, status_of};
 ghost use Rattle.tarmo_run.specs.Ended.{TookFrontOfLine};
 ghost use Rattle.tarmo_run.specs.declared.endings.Ending.TheVariants as endings;
 
@@ -38,8 +40,8 @@ pub enum Ending {
 }
 
 impl Ending {
-    /// The status of such a run over the board: 6 where a job found no memory; else that of the ending, which is 1 instead of
-    /// 0 where a job was given up.
+    /// The status of such a run over the board: 6 where a job found no memory; else that of the
+    /// ending, which is 1 instead of 0 where a job was given up.
     pub(crate) fn status(self, board: &Board) -> u8
         ensures { result ≡ status_of self board.now }
     {
@@ -54,8 +56,8 @@ impl Ending {
         }
     }
 
-    /// Writes the last line, or `memory` where there is no memory for a line with a number, and flushes. Answers
-    /// the ending that the line tells.
+    /// Writes the last line, or `memory` where there is no memory for a line with a number, and
+    /// flushes. Answers the ending that the line tells.
     pub(crate) fn close<O: Sink>(self, alloc: Global, out: &mut O) -> Result<Ending, Failed>
         ensures told { IfOk result (λ told. ((told ≡ self) ⊎ (told ≡ endings.Exhausted))
             × (O.taken out.new ≡ appended (O.taken out.old) (last_line_of told))) }
@@ -97,7 +99,8 @@ impl Ending {
 
 // The status of a run that answered its whole text.
 fn complete_status(board: &Board) -> u8
-    ensures { result ≡ (if is_one_so is_undecided board.now (jobs board.now.journal) then 1 else 0) }
+    ensures { result
+        ≡ (if is_one_so is_undecided board.now (jobs board.now.journal) then 1 else 0) }
 {
     if is_one_without(board, Lack::Decision) {
         UNDECIDED
@@ -155,7 +158,8 @@ fn is_without(board: &Board, job: u32, lack: Lack) -> bool
 pub(crate) fn close_without_memory<O: Sink>(out: &mut O) -> Result<Ending, Failed>
     ensures told { IfOk result (λ told. (told ≡ endings.Exhausted)
         × (O.taken out.new ≡ appended (O.taken out.old) (last_line_of told))) }
-    ensures front { OnErr result ((size : ℕ) × (O.taken out.new ≡ appended (O.taken out.old) (take size (last_line_of endings.Exhausted)))) }
+    ensures front { OnErr result ((size : ℕ) × (O.taken out.new
+        ≡ appended (O.taken out.old) (take size (last_line_of endings.Exhausted)))) }
     ensures cause { HasCause (O.faults out.old) (O.faults out.new) result }
 {
     write_last(out, b"memory\n")?;
@@ -173,7 +177,8 @@ fn end_line(alloc: Global, jobs: u64) -> Result<Vec<u8>, AllocError>
 }
 
 fn refused_line(alloc: Global, fault: Fault) -> Result<Vec<u8>, AllocError>
-    ensures { IfOk result (λ line. line.items ≡ codes "refused " ++ decimal fault.line ++ codes " " ++ reason_text fault.reason ++ codes "\n") }
+    ensures { IfOk result (λ line. line.items ≡ codes "refused " ++ decimal fault.line
+        ++ codes " " ++ reason_text fault.reason ++ codes "\n") }
 {
     let mut line = Vec::new(alloc);
     line.extend_from_slice(b"refused ")?;
@@ -200,7 +205,8 @@ fn reason_text(reason: Reason) -> &'static [u8]
 // Writes the line as one piece, and flushes.
 fn write_last<O: Sink>(out: &mut O, line: &[u8]) -> Result<(), Failed>
     ensures whole { OnOk result (O.taken out.new ≡ appended (O.taken out.old) line.now) }
-    ensures front { OnErr result ((size : ℕ) × (O.taken out.new ≡ appended (O.taken out.old) (take size line.now))) }
+    ensures front { OnErr result ((size : ℕ)
+        × (O.taken out.new ≡ appended (O.taken out.old) (take size line.now))) }
     ensures cause { HasCause (O.faults out.old) (O.faults out.new) result }
 {
     write_all(out, line)?;

@@ -26,9 +26,9 @@ fn buffer(alloc: Global, len: usize) -> Result<Vec<u8>, AllocError>
     vec![in alloc; 0u8; len]
 }
 
-/// Starts the source, reads its text piece by piece, settles the jobs that have ended, and writes their blocks before
-/// it reads on. It stops at the end of the text, at its first wrong place, where the source fails, or where
-/// memory runs out.
+/// Starts the source, reads its text piece by piece, settles the jobs that have ended, and writes
+/// their blocks before it reads on. It stops at the end of the text, at its first wrong place,
+/// where the source fails, or where memory runs out.
 pub(crate) fn show_blocks<S: Source, O: Sink>(
     alloc: Global,
     trace: bool,
@@ -110,7 +110,8 @@ fn answer_pieces<S: Source, O: Sink>(
     }
 }
 
-// Answers the jobs that a piece ended. The run ends there at a wrong place, or where memory runs out.
+// Answers the jobs that a piece ended. The run ends there at a wrong place, or where memory runs
+// out.
 fn answer_piece<O: Sink>(
     reader: &mut Reader,
     desk: &mut Desk,
@@ -155,7 +156,8 @@ fn answer_rest<O: Sink>(
     ensures through { IfOk result (λ ending. (bytes : List ℕ) (failed : Bool) →
         failed ≡ false → IsCaughtUp reader desk.old bytes →
         IsThrough ending (record { bytes = bytes; ended = true; failed = failed }) desk.new) }
-    ensures in_part { OnErr result ((bytes : List ℕ) (failed : Bool) → IsCaughtUp reader desk.old bytes →
+    ensures in_part { OnErr result ((bytes : List ℕ) (failed : Bool) →
+        IsCaughtUp reader desk.old bytes →
         AsksFirst (record { bytes = bytes; ended = true; failed = failed }) desk.new.board) }
     ensures writes { OnOk result
         (Shows trace desk.old desk.new (O.taken out.old) (O.taken out.new)) }
@@ -172,8 +174,8 @@ fn answer_rest<O: Sink>(
     }
 }
 
-// Answers the jobs of statements that were read. The run ends behind them at a wrong place, or where memory
-// runs out.
+// Answers the jobs of statements that were read. The run ends behind them at a wrong place, or
+// where memory runs out.
 fn answer_fed<O: Sink>(
     desk: &mut Desk,
     trace: bool,

@@ -2,7 +2,9 @@
 
 ghost use Rattle.std.specs.Prelude.{◌≡◌, ◌≤◌, map, option_map, string_bytes, IfSome};
 ghost use Rattle.entry_core.specs.Legal.{AreWithinLimits};
-ghost use Rattle.tarmo_run.specs.Words.{AreWithin, accepted, after_option, command_of, no_options, rules_of, with_attempts, with_conflicts, with_trace, with_words};
+ghost use Rattle.tarmo_run.specs.Words.{AreWithin, accepted, after_option, command_of, no_options};
+ghost use Rattle.tarmo_run.specs.Words.{rules_of, with_attempts, with_conflicts, with_trace};
+ghost use Rattle.tarmo_run.specs.Words.{with_words};
 
 use entry_core::Rules;
 use line_tokens::read_number;
@@ -61,7 +63,8 @@ impl Options {
     // With the option that stands first among the words, and the words behind it.
     fn with_option<'a>(self, word: &[u8], words: &'a [String]) -> Option<(Options, &'a [String])>
         requires within { AreWithin self }
-        ensures value { option_map (λ found. (found.0, map string_bytes found.1.now)) result ≡ after_option self word.now (map string_bytes words.now) }
+        ensures value { option_map (λ found. (found.0, map string_bytes found.1.now)) result
+            ≡ after_option self word.now (map string_bytes words.now) }
         ensures within { IfSome result (λ found. AreWithin found.0) }
     {
         if word == b"--trace".as_slice() {
@@ -137,8 +140,8 @@ impl Options {
     }
 }
 
-/// What the words ask for. None where they aren't accepted: where a word is no option, an option stands twice,
-/// or its value isn't there or isn't within its limits.
+/// What the words ask for. None where they aren't accepted: where a word is no option, an option
+/// stands twice, or its value isn't there or isn't within its limits.
 pub(crate) fn read_words(words: &[String]) -> Option<Command>
     ensures value { result ≡ accepted (map string_bytes words.now) }
     ensures limits { IfSome result (λ command. AreWithinLimits (rules_of command)) }

@@ -64,8 +64,8 @@ impl Writer {
         }
     }
 
-    /// Writes the blocks that are due, in order, each as a piece of its own: those of settled jobs, up to the first
-    /// job that isn't settled.
+    /// Writes the blocks that are due, in order, each as a piece of its own: those of settled jobs,
+    /// up to the first job that isn't settled.
     pub(crate) fn write_settled<O: Sink>(
         &mut self,
         board: &Board,
@@ -77,8 +77,10 @@ impl Writer {
         ensures counted { HasCounted self.new board.now }
         ensures wrote { MatchResult result
             (λ _. Writes trace board.now self.old self.new (O.taken out.old) (O.taken out.new))
-            (λ halt. WritesUntil trace halt board.now self.old self.new (O.taken out.old) (O.taken out.new)) }
-        ensures all { OnOk result (AreSettled board.now → self.new.written ≡ jobs board.now.journal) }
+            (λ halt. WritesUntil trace halt board.now self.old self.new
+            (O.taken out.old) (O.taken out.new)) }
+        ensures all { OnOk result
+            (AreSettled board.now → self.new.written ≡ jobs board.now.journal) }
         ensures cause { MatchResult result
             (λ _. O.faults out.new ≡ O.faults out.old)
             (λ halt. IsHalt halt (O.faults out.old) (O.faults out.new)) }
@@ -91,7 +93,8 @@ impl Writer {
 
     // The first job without a block and its verdict, where it is there and settled.
     fn next_due(&self, board: &Board) -> Result<Option<(u32, Verdict)>, AllocError>
-        ensures due { IfOk result (λ next. IfSome next (λ due. IsDue self.now board.now due.0 due.1)) }
+        ensures due { IfOk result (λ next.
+            IfSome next (λ due. IsDue self.now board.now due.0 due.1)) }
         ensures none { IfOk result (λ next. next ≡ None → AreSettled board.now →
             jobs board.now.journal ≤ self.now.written) }
     {
@@ -120,7 +123,8 @@ impl Writer {
         ensures counted { HasCounted self.new board.now }
         ensures wrote { MatchResult result
             (λ _. Writes trace board.now self.old self.new (O.taken out.old) (O.taken out.new))
-            (λ halt. WritesUntil trace halt board.now self.old self.new (O.taken out.old) (O.taken out.new)) }
+            (λ halt. WritesUntil trace halt board.now self.old self.new
+            (O.taken out.old) (O.taken out.new)) }
         ensures one { OnOk result (self.new.written ≡ self.old.written + 1) }
         ensures cause { MatchResult result
             (λ _. O.faults out.new ≡ O.faults out.old)
@@ -152,8 +156,8 @@ impl Writer {
             printed.inputs ≡ length (inputs_of board.now.journal job)) }
         ensures text { IfOk result (λ printed. IsBlockOf trace board.now job printed.text.items) }
     {
-        // A board's journal is legal: it keeps the limit on clauses, and each verdict has its cause, so that a
-        // model has the job's variables and a trace cites what stands before.
+        // A board's journal is legal: it keeps the limit on clauses, and each verdict has its
+        // cause, so that a model has the job's variables and a trace cites what stands before.
         verdicts_have_causes();
         let _ = board.journal();
         let segment = board.segment(job)?;

@@ -9,7 +9,8 @@ returns-in-Ok-clause-run g c =
     let rules : c.new-desk.result.board.rules ≡ rules_of c.args.command =
     ap (λ (board : State). board.rules) c.new-desk.ensures.board ∙ c.requires.rules in
     rw c.give_back.ensures.parts
-    (ran_through c.args.command c.in-Ok.ending _ _ _ _ c.solve.new.desk.board _ _ c.status-status.result
+    (ran_through c.args.command c.in-Ok.ending _ _ _ _ c.solve.new.desk.board _ _
+    c.status-status.result
     (c.solve.ensures.rules ∙ rules) c.give_back.ensures.legal c.status-status.ensures
     c.in-Ok.ensures.finished)
 

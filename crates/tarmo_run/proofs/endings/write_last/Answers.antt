@@ -1,4 +1,4 @@
-use Rattle.std.proofs.Common.{◌∙◌, ap, sym, length}
+use Rattle.std.proofs.Common.{◌≡◌, ◌∙◌, ℕ, ap, sym, length, take}
 use Rattle.std.proofs.Math.Seq.{take-length}
 use Rattle.run_io.specs.Bytes.{appended}
 use Rattle.tarmo_run.proofs.Results.{OnErr-always}
@@ -6,7 +6,10 @@ use Rattle.tarmo_run.proofs.endings.write_last.Goals as goal
 
 pub returns-clause-front : goal.returns-clause-front
 returns-clause-front g c =
-    OnErr-always _ (
+    let front : (size : ℕ) × (g.O.Sink.taken c.flush.new.self
+    ≡ appended (g.O.Sink.taken c.args.out.now) (take size c.args.line.now)) = (
       length c.args.line.now,
-      c.flush.ensures.bytes ∙ c.in_ok-write_all.ensures.whole ∙ ap (appended (g.O.Sink.taken c.args.out.now)) (sym (take-length c.args.line.now)),
-    )
+      c.flush.ensures.bytes ∙ c.in_ok-write_all.ensures.whole
+          ∙ ap (appended (g.O.Sink.taken c.args.out.now)) (sym (take-length c.args.line.now)),
+    ) in
+    OnErr-always _ front

@@ -6,7 +6,8 @@ use Rattle.tarmo_run.proofs.words.read_options.Given as goal
 -- what the words that are left add to the options so far is what all words add
 abbrev pub invariant-loop-word : goal.invariant-loop-word
 invariant-loop-word l = record {
-  same : with_words l.options (map string_bytes l.rest) ≡ with_words no_options (map string_bytes l.words);
+  same : with_words l.options (map string_bytes l.rest)
+      ≡ with_words no_options (map string_bytes l.words);
   within : AreWithin l.options;
 }
 

@@ -14,12 +14,14 @@ returns-then-is_err-clause-more c =
 
 pub returns-clause-more : goal.returns-clause-more
 returns-clause-more c =
-    let adds : c.add.new.self ≡ entered c.args.board.now 1 (event.Added c.in_ok-segment.segment) = search rules in
+    let adds : c.add.new.self ≡ entered c.args.board.now 1 (event.Added c.in_ok-segment.segment) =
+    search rules in
     jobs_by _ _ _ adds
 
 pub returns-clause-added : goal.returns-clause-added
 returns-clause-added c =
-    let adds : c.add.new.self ≡ entered c.args.board.now 1 (event.Added c.in_ok-segment.segment) = search rules in
+    let adds : c.add.new.self ≡ entered c.args.board.now 1 (event.Added c.in_ok-segment.segment) =
+    search rules in
     let value : arc_value c.in_ok-segment.segment
     ≡ record { clauses = c.args.self.now.pending.items; cube = c.args.cube } = search rules in
     one_segment_more _ _ _ _ adds value
