@@ -122,9 +122,10 @@ def circumstances(limit, count, start):
     commit = subprocess.run(["git", "-C", TOP, "describe", "--always", "--dirty"],
                             capture_output=True, text=True).stdout.strip()
     load = (start + os.getloadavg()[2]) / 2
+    other = f", program {os.environ['TARMO']}" if "TARMO" in os.environ else ""
     return (f"{time.strftime('%Y-%m-%d')}, commit {commit or 'unknown'}, at most {count} runs of "
             f"{limit:g} s,\n{os.cpu_count()} x {models[0] if models else 'unknown processor'}, "
-            f"load {load:.1f}")
+            f"load {load:.1f}{other}")
 
 
 def main():
