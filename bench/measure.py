@@ -119,12 +119,14 @@ def circumstances(limit, count, start):
     """The date, the commit, the machine and how busy it was, in two lines."""
     models = [line.partition(":")[2].strip() for line in open("/proc/cpuinfo")
               if line.startswith("model name")]
+    model = models[0] if models else "unknown processor"
     commit = subprocess.run(["git", "-C", TOP, "describe", "--always", "--dirty"],
                             capture_output=True, text=True).stdout.strip()
     load = (start + os.getloadavg()[2]) / 2
     other = f", program {os.environ['TARMO']}" if "TARMO" in os.environ else ""
-    return (f"{time.strftime('%Y-%m-%d')}, commit {commit or 'unknown'}, at most {count} runs of "
-            f"{limit:g} s,\n{os.cpu_count()} x {models[0] if models else 'unknown processor'}, "
+    runs = "one run" if count == 1 else f"{count} runs"
+    return (f"{time.strftime('%Y-%m-%d')}, commit {commit or 'unknown'}, at most {runs} each, "
+            f"{limit:g} s a run,\n{os.cpu_count()} x {model}, "
             f"load {load:.1f}{other}")
 
 
