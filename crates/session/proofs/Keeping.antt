@@ -1,6 +1,7 @@
 -- What a search does to its solver, call after call.
-use Rattle.std.proofs.Common.{◌≡◌, ◌∙◌, ℕ, ◌<◌, ◌≤◌, List, [], ◌∷◌, ◌++◌, length, max, Bool, Option, None, Some, refl, ap, sym, subst, arith}
-use Rattle.std.specs.Prelude.{All, IfSome, IfNone}
+use Rattle.std.proofs.Common.{◌≡◌, ◌∙◌, ℕ, ◌<◌, ◌≤◌, List, [], ◌∷◌, ◌++◌, length, max, Bool, Option}
+use Rattle.std.proofs.Common.{None, Some, ap, sym, subst, arith}
+use Rattle.std.specs.Prelude.{IfSome, IfNone}
 use Rattle.std.proofs.lemmas.List.{append-nil}
 use Rattle.sat_base.specs.Lit.{greatest_of}
 use Rattle.sat_base.specs.Truth.{IsModelOf}
@@ -15,7 +16,8 @@ use Rattle.session.specs.declared.rounds.Descent.TheVariants.{Conflict, Ended}
 use Rattle.session.specs.Fronts.{IsFront}
 use Rattle.session.specs.OnTrail.{AreAssigned, IsForCube}
 use Rattle.session.specs.Solver.{Solver, clauses_of, inputs_of}
-use Rattle.session.specs.Searching.{IsSearching, HasSameVariables, HasStepsMore, HasUnitsMore, solver_of}
+use Rattle.session.specs.Searching.{IsSearching, HasSameVariables, HasStepsMore, HasUnitsMore}
+use Rattle.session.specs.Searching.{solver_of}
 use Rattle.session.specs.Rounds.{IsInRound, step_of_round}
 use Rattle.session.specs.Refutations.{IsRefutation}
 use Rattle.session.specs.Descents.{Descends}
@@ -26,7 +28,8 @@ use Rattle.session.proofs.Steps.{steps_front, units_steps}
 use Rattle.session.proofs.Repeats.{learns_none, learns_then}
 
 -- Learning.
-pub learns_keeps : (old new : Solver) (more : List Known) (last : List ℕ) → Learns old new more last → Keeps old new
+pub learns_keeps : (old new : Solver) (more : List Known) (last : List ℕ)
+    → Learns old new more last → Keeps old new
 learns_keeps old new more last l = record {
   inputs = l.inputs;
   bound = l.bound;
@@ -46,7 +49,8 @@ keeps_twice old mid new a b = record {
   learnt = front_twice old.learnt mid.learnt new.learnt a.learnt b.learnt;
 }
 
-pub keeps_steps : (old new : Solver) → new ≡ record old { steps = new.steps } → IsFront old.steps new.steps → Keeps old new
+pub keeps_steps : (old new : Solver) → new ≡ record old { steps = new.steps }
+    → IsFront old.steps new.steps → Keeps old new
 keeps_steps old new same front = record {
   inputs = ap (λ (x : Solver). x.inputs) same;
   bound = ap (λ (x : Solver). x.bound) same;
@@ -56,7 +60,8 @@ keeps_steps old new same front = record {
   learnt = subst (λ (x : Solver). IsFront old.learnt x.learnt) (sym same) (same_front old.learnt);
 }
 
-pub learns_steps : (old new : Solver) (last : List ℕ) → new ≡ record old { steps = new.steps } → HasStepsMore old.steps new.steps last → Learns old new [] last
+pub learns_steps : (old new : Solver) (last : List ℕ) → new ≡ record old { steps = new.steps }
+    → HasStepsMore old.steps new.steps last → Learns old new [] last
 learns_steps old new last parts steps = record {
   inputs = ap (λ (x : Solver). x.inputs) parts;
   bound = ap (λ (x : Solver). x.bound) parts;
@@ -70,26 +75,48 @@ learns_steps old new last parts steps = record {
   proper = λ i d lt. absurd (omega (arith, lt));
 }
 
-pub concludes_after : (old mid new : Solver) (cube : List ℕ) (round : Round) → Learns old mid [] [] → Concludes mid new cube round → Concludes old new cube round
-concludes_after old mid new cube round a b = record { learns = learns_then old mid new [] [] (step_of_round round) a b.learns; right = b.right }
+pub concludes_after : (old mid new : Solver) (cube : List ℕ) (round : Round) → Learns old mid [] []
+    → Concludes mid new cube round → Concludes old new cube round
+concludes_after old mid new cube round a b = record {
+  learns = learns_then old mid new [] []
+      (step_of_round round) a b.learns;
+  right = b.right;
+}
 
-pub learns_one_after : (old mid new : Solver) → Learns old mid [] [] → LearnsOne mid new → LearnsOne old new
-learns_one_after old mid new a b = record { one = b.one; learns = learns_then old mid new [] (b.one ∷ []) [] a b.learns }
+pub learns_one_after : (old mid new : Solver) → Learns old mid [] [] → LearnsOne mid new
+    → LearnsOne old new
+learns_one_after old mid new a b = record {
+  one = b.one;
+  learns = learns_then old mid new [] (b.one ∷ []) [] a b.learns;
+}
 
 -- propagation learns nothing
-pub learns_propagated : (s : Search) (store : StoreView) (trail : TrailView) → IsSearching s → HasSameClauses s.store.clauses store.clauses → Learns (solver_of s) (solver_of (record s { store = store; trail = trail })) [] []
+pub learns_propagated : (s : Search) (store : StoreView) (trail : TrailView) → IsSearching s
+    → HasSameClauses s.store.clauses store.clauses
+    → Learns (solver_of s) (solver_of (record s { store = store; trail = trail })) [] []
 learns_propagated s store trail kept same =
     subst (λ (solver : Solver). Learns (solver_of s) solver [] [])
-    (ap (λ inputs. record (solver_of s) { inputs = inputs }) (inputs_same s.store.clauses store.clauses (pairs_of s store kept same))
-    ∙ ap (λ held. record (solver_of s) { inputs = inputs_of store.clauses; held = held }) (held_same s.store.clauses store.clauses (pairs_of s store kept same)))
+    (ap (λ inputs. record (solver_of s) { inputs = inputs })
+    (inputs_same s.store.clauses store.clauses (pairs_of s store kept same))
+    ∙ ap (λ held. record (solver_of s) { inputs = inputs_of store.clauses; held = held })
+    (held_same s.store.clauses store.clauses (pairs_of s store kept same)))
     (learns_none (solver_of s))
 
 -- unit clauses that got their names
-pub learns_named : (s new : Search) → new ≡ record s { units = new.units; tags = new.tags; named = new.named; steps = new.steps } → HasUnitsMore s.steps.items new.steps.items → Learns (solver_of s) (solver_of new) [] []
-learns_named s new parts more = learns_steps (solver_of s) (solver_of new) [] (ap solver_of parts) (units_steps s.steps.items new.steps.items more)
+pub learns_named : (s new : Search) → new ≡ record s {
+  units = new.units;
+  tags = new.tags;
+  named = new.named;
+  steps = new.steps;
+} → HasUnitsMore s.steps.items new.steps.items
+    → Learns (solver_of s) (solver_of new) [] []
+learns_named s new parts more = learns_steps (solver_of s) (solver_of new) [] (ap solver_of parts)
+    (units_steps s.steps.items new.steps.items more)
 
 -- A round.
-pub round_stays : (old new : Search) (cube : List ℕ) (vars : ℕ) → IsInRound old cube vars → IsSearching new → HasSameVariables old new → IsForCube cube new.trail.entries → IsInRound new cube vars
+pub round_stays : (old new : Search) (cube : List ℕ) (vars : ℕ) → IsInRound old cube vars
+    → IsSearching new → HasSameVariables old new → IsForCube cube new.trail.entries
+    → IsInRound new cube vars
 round_stays old new cube vars round kept same for_cube = record {
   kept = kept;
   for_cube = for_cube;
@@ -101,20 +128,44 @@ round_stays old new cube vars round kept same for_cube = record {
   };
 }
 
-pub round_stepped : (s new : Search) (cube : List ℕ) (vars : ℕ) → IsInRound s cube vars → new ≡ record s { steps = new.steps } → IsSearching new → IsInRound new cube vars
+pub round_stepped : (s new : Search) (cube : List ℕ) (vars : ℕ) → IsInRound s cube vars
+    → new ≡ record s { steps = new.steps } → IsSearching new → IsInRound new cube vars
 round_stepped s new cube vars round parts kept =
-    round_stays s new cube vars round kept (record { greatest = ap (λ (x : Search). x.greatest) parts; vars = ap (λ (x : Search). x.trail.vars) parts })
-    (subst (λ (t : TrailView). IsForCube cube t.entries) (sym (ap (λ (x : Search). x.trail) parts)) round.for_cube)
+    round_stays s new cube vars round kept (record {
+      greatest = ap
+          (λ (x : Search). x.greatest) parts;
+      vars = ap (λ (x : Search). x.trail.vars) parts;
+    })
+    (subst (λ (t : TrailView). IsForCube cube t.entries)
+    (sym (ap (λ (x : Search). x.trail) parts)) round.for_cube)
 
-pub round_decided : (s new : Search) (cube : List ℕ) (vars : ℕ) → IsInRound s cube vars → new ≡ record s { trail = new.trail } → new.trail.vars ≡ s.trail.vars → IsSearching new → IsForCube cube new.trail.entries → IsInRound new cube vars
+pub round_decided : (s new : Search) (cube : List ℕ) (vars : ℕ) → IsInRound s cube vars
+    → new ≡ record s { trail = new.trail } → new.trail.vars ≡ s.trail.vars → IsSearching new
+    → IsForCube cube new.trail.entries → IsInRound new cube vars
 round_decided s new cube vars round parts same kept for_cube =
-    round_stays s new cube vars round kept (record { greatest = ap (λ (x : Search). x.greatest) parts; vars = same }) for_cube
+    round_stays s new cube vars round kept (record {
+      greatest = ap
+          (λ (x : Search). x.greatest) parts;
+      vars = same;
+    }) for_cube
 
-pub search_moved : (s : Search) (cursor : ℕ) → IsSearching s → AreAssigned (lits_of s.trail.entries) cursor → IsSearching (record s { cursor = cursor })
+pub search_moved : (s : Search) (cursor : ℕ) → IsSearching s
+    → AreAssigned (lits_of s.trail.entries) cursor → IsSearching (record s { cursor = cursor })
 search_moved s cursor kept assigned = record {
   stock = kept.stock;
-  room = record { over = kept.room.over; reserved = kept.room.reserved; store = kept.room.store; scratch = kept.room.scratch; units = kept.room.units; tags = kept.room.tags };
-  counted = record { greatest = kept.counted.greatest; inputs = kept.counted.inputs; learnt = kept.counted.learnt };
+  room = record {
+    over = kept.room.over;
+    reserved = kept.room.reserved;
+    store = kept.room.store;
+    scratch = kept.room.scratch;
+    units = kept.room.units;
+    tags = kept.room.tags;
+  };
+  counted = record {
+    greatest = kept.counted.greatest;
+    inputs = kept.counted.inputs;
+    learnt = kept.counted.learnt;
+  };
   trail = kept.trail;
   on = kept.on;
   named = kept.named;
@@ -122,82 +173,126 @@ search_moved s cursor kept assigned = record {
   cursor = assigned;
 }
 
-pub round_moved : (s : Search) (cursor : ℕ) (cube : List ℕ) (vars : ℕ) → IsInRound s cube vars → AreAssigned (lits_of s.trail.entries) cursor → IsInRound (record s { cursor = cursor }) cube vars
+pub round_moved : (s : Search) (cursor : ℕ) (cube : List ℕ) (vars : ℕ) → IsInRound s cube vars
+    → AreAssigned (lits_of s.trail.entries) cursor
+    → IsInRound (record s { cursor = cursor }) cube vars
 round_moved s cursor cube vars round assigned = record {
   kept = search_moved s cursor round.kept assigned;
   for_cube = round.for_cube;
-  variables = record { are = round.variables.are; reserved = round.variables.reserved; few = round.variables.few; set = round.variables.set };
+  variables = record {
+    are = round.variables.are;
+    reserved = round.variables.reserved;
+    few = round.variables.few;
+    set = round.variables.set;
+  };
 }
 
 -- a step came behind those that were there
-pub keeps_stepped : (s new : Search) → new ≡ record s { steps = new.steps } → IsFront s.steps.items new.steps.items → Keeps (solver_of s) (solver_of new)
-keeps_stepped s new parts front = keeps_steps (solver_of s) (solver_of new) (ap solver_of parts) front
+pub keeps_stepped : (s new : Search) → new ≡ record s { steps = new.steps }
+    → IsFront s.steps.items new.steps.items → Keeps (solver_of s) (solver_of new)
+keeps_stepped s new parts front = keeps_steps (solver_of s) (solver_of new)
+    (ap solver_of parts) front
 
-pub keeps_named : (s new : Search) → new ≡ record s { units = new.units; tags = new.tags; named = new.named; steps = new.steps } → IsFront s.steps.items new.steps.items → Keeps (solver_of s) (solver_of new)
+pub keeps_named : (s new : Search) → new ≡ record s {
+  units = new.units;
+  tags = new.tags;
+  named = new.named;
+  steps = new.steps;
+} → IsFront s.steps.items new.steps.items
+    → Keeps (solver_of s) (solver_of new)
 keeps_named s new parts front = keeps_steps (solver_of s) (solver_of new) (ap solver_of parts) front
 
 pub keeps_itself : (solver : Solver) → Keeps solver solver
 keeps_itself solver = learns_keeps solver solver [] [] (learns_none solver)
 
 -- decisions change no solver
-pub learns_decided : (s new : Search) → new ≡ record s { trail = new.trail } → Learns (solver_of s) (solver_of new) [] []
-learns_decided s new parts = subst (λ (solver : Solver). Learns (solver_of s) solver [] []) (sym (ap solver_of parts)) (learns_none (solver_of s))
+pub learns_decided : (s new : Search) → new ≡ record s { trail = new.trail }
+    → Learns (solver_of s) (solver_of new) [] []
+learns_decided s new parts = subst (λ (solver : Solver). Learns (solver_of s) solver [] [])
+    (sym (ap solver_of parts)) (learns_none (solver_of s))
 
-pub refuted_concludes : (old new : Solver) (cube part : List ℕ) (number : ℕ) → new ≡ record old { steps = new.steps } → HasStepsMore old.steps new.steps (number ∷ []) → IsRefutation old.inputs new.steps cube part number → Concludes old new cube (Refuted part number)
+pub refuted_concludes : (old new : Solver) (cube part : List ℕ) (number : ℕ)
+    → new ≡ record old { steps = new.steps } → HasStepsMore old.steps new.steps (number ∷ [])
+    → IsRefutation old.inputs new.steps cube part number
+    → Concludes old new cube (Refuted part number)
 refuted_concludes old new cube part number same steps right = record {
   learns = learns_steps old new (number ∷ []) same steps;
-  right = subst (λ (inputs : List Known). IsRefutation inputs new.steps cube part number) (sym (ap (λ (x : Solver). x.inputs) same)) right;
+  right = subst (λ (inputs : List Known). IsRefutation inputs new.steps cube part number)
+      (sym (ap (λ (x : Solver). x.inputs) same)) right;
 }
 
-pub model_concludes : (solver : Solver) (cube : List ℕ) (values : List Bool) → IsModelOf (clauses_of solver.inputs) cube values → Concludes solver solver cube (Model values)
+pub model_concludes : (solver : Solver) (cube : List ℕ) (values : List Bool)
+    → IsModelOf (clauses_of solver.inputs) cube values → Concludes solver solver cube (Model values)
 model_concludes solver cube values right = record { learns = learns_none solver; right = right }
 
 -- A descent, after propagation or decisions.
-descends_after : (old mid new : Search) (cube : List ℕ) (descent : Descent) → Learns (solver_of old) (solver_of mid) [] [] → Descends mid new cube descent → Descends old new cube descent
-descends_after old mid new cube (Conflict id) learns d = (learns_then (solver_of old) (solver_of mid) (solver_of new) [] [] [] learns d.0, d.1)
-descends_after old mid new cube (Ended round) learns d = concludes_after (solver_of old) (solver_of mid) (solver_of new) cube round learns d
+descends_after : (old mid new : Search) (cube : List ℕ) (descent : Descent)
+    → Learns (solver_of old) (solver_of mid) [] [] → Descends mid new cube descent
+    → Descends old new cube descent
+descends_after old mid new cube (Conflict id) learns d =
+    (learns_then (solver_of old) (solver_of mid) (solver_of new) [] [] [] learns d.0, d.1)
+descends_after old mid new cube (Ended round) learns d = concludes_after (solver_of old)
+    (solver_of mid) (solver_of new) cube round learns d
 
-pub some_descends_after : (old mid new : Search) (cube : List ℕ) (end : Option Descent) → Learns (solver_of old) (solver_of mid) [] [] → IfSome end (Descends mid new cube) → IfSome end (Descends old new cube)
+pub some_descends_after : (old mid new : Search) (cube : List ℕ) (end : Option Descent)
+    → Learns (solver_of old) (solver_of mid) [] [] → IfSome end (Descends mid new cube)
+    → IfSome end (Descends old new cube)
 some_descends_after old mid new cube None learns d = d
-some_descends_after old mid new cube (Some descent) learns d = descends_after old mid new cube descent learns d
+some_descends_after old mid new cube
+    (Some descent) learns d = descends_after old mid new cube descent learns d
 
-pub none_learns_after : (old mid new : Solver) (end : Option Descent) → Learns old mid [] [] → IfNone end (Learns mid new [] []) → IfNone end (Learns old new [] [])
+pub none_learns_after : (old mid new : Solver) (end : Option Descent) → Learns old mid [] []
+    → IfNone end (Learns mid new [] []) → IfNone end (Learns old new [] [])
 none_learns_after old mid new None learns later = learns_then old mid new [] [] [] learns later
 none_learns_after old mid new (Some descent) learns later = later
 
-pub none_longer_after : (before between after : ℕ) (end : Option Descent) → before ≤ between → IfNone end (between < after) → IfNone end (before < after)
+pub none_longer_after : (before between after : ℕ) (end : Option Descent) → before ≤ between
+    → IfNone end (between < after) → IfNone end (before < after)
 none_longer_after before between after None le later = omega (arith, le, later)
 none_longer_after before between after (Some descent) le later = later
 
-pub descent_behind : (old mid new : Search) (cube : List ℕ) (end : Option Descent) (descent : Descent) → Learns (solver_of old) (solver_of mid) [] [] → end ≡ Some descent → IfSome end (Descends mid new cube) → Descends old new cube descent
+pub descent_behind : (old mid new : Search) (cube : List ℕ) (end : Option Descent)
+    (descent : Descent) → Learns (solver_of old) (solver_of mid) [] [] → end ≡ Some descent
+    → IfSome end (Descends mid new cube) → Descends old new cube descent
 descent_behind old mid new cube end descent learns is d = descends_after old mid new cube descent learns (subst (λ found. IfSome found (Descends mid new cube)) is d)
 
 -- What resolving a conflict comes to, after a descent.
-pub some_concludes_after : (old mid new : Solver) (cube : List ℕ) (end : Option Round) → Learns old mid [] [] → IfSome end (λ round. (any : List ℕ) → Concludes mid new any round) → IfSome end (Concludes old new cube)
+pub some_concludes_after : (old mid new : Solver) (cube : List ℕ) (end : Option Round)
+    → Learns old mid [] [] → IfSome end (λ round. (any : List ℕ) → Concludes mid new any round)
+    → IfSome end (Concludes old new cube)
 some_concludes_after old mid new cube None learns c = c
-some_concludes_after old mid new cube (Some round) learns c = concludes_after old mid new cube round learns (c cube)
+some_concludes_after old mid new cube
+    (Some round) learns c = concludes_after old mid new cube round learns (c cube)
 
-pub none_learns_one_after : (old mid new : Solver) (end : Option Round) → Learns old mid [] [] → IfNone end (LearnsOne mid new) → IfNone end (LearnsOne old new)
+pub none_learns_one_after : (old mid new : Solver) (end : Option Round) → Learns old mid [] []
+    → IfNone end (LearnsOne mid new) → IfNone end (LearnsOne old new)
 none_learns_one_after old mid new None learns later = learns_one_after old mid new learns later
 none_learns_one_after old mid new (Some round) learns later = later
 
 -- Rounds until the limit.
-pub solves_now : (old mid new : Solver) (cube : List ℕ) (limit count : ℕ) (more : List Known) (end : Option Round) (round : Round) → Learns old mid more [] → length more ≡ count → count < limit → end ≡ Some round → IfSome end (Concludes mid new cube) → Solves old new cube limit round
+pub solves_now : (old mid new : Solver) (cube : List ℕ) (limit count : ℕ) (more : List Known)
+    (end : Option Round) (round : Round) → Learns old mid more [] → length more ≡ count
+    → count < limit → end ≡ Some round → IfSome end (Concludes mid new cube)
+    → Solves old new cube limit round
 solves_now old mid new cube limit count more end round learns size low is some =
     let c = subst (λ found. IfSome found (Concludes mid new cube)) is some in
     let all = learns_then old mid new more [] (step_of_round round) learns c.learns in
     record {
       more = more;
-      learns = subst (λ (xs : List Known). Learns old new xs (step_of_round round)) (append-nil more) all;
+      learns = subst (λ (xs : List Known). Learns old new xs (step_of_round round))
+          (append-nil more) all;
       ends = ends_now new cube limit (length more) round c.right (omega (arith, size, low));
     }
   where
-    ends_now : (solver : Solver) (cube : List ℕ) (limit count : ℕ) (round : Round) → IsRight solver cube round → count < limit → Ends solver cube limit count round
+    ends_now : (solver : Solver) (cube : List ℕ) (limit count : ℕ) (round : Round)
+        → IsRight solver cube round → count < limit → Ends solver cube limit count round
     ends_now solver cube limit count (Model values) right lt = (right, lt)
     ends_now solver cube limit count (Refuted part number) right lt = (right, lt)
     ends_now solver cube limit count Paused right lt = absurd right
 
-pub learns_next : (old mid new : Solver) (more : List Known) (end : Option Round) → Learns old mid more [] → end ≡ None → IfNone end (LearnsOne mid new) → (one : Known) × Learns old new (more ++ one ∷ []) []
+pub learns_next : (old mid new : Solver) (more : List Known) (end : Option Round)
+    → Learns old mid more [] → end ≡ None → IfNone end (LearnsOne mid new)
+    → (one : Known) × Learns old new (more ++ one ∷ []) []
 learns_next old mid new more end learns is later =
     let next = subst (λ found. IfNone found (LearnsOne mid new)) is later in
     (next.one, learns_then old mid new more (next.one ∷ []) [] learns next.learns)

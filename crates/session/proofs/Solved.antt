@@ -1,8 +1,8 @@
 -- Variables are few.
-use Rattle.std.proofs.Common.{◌≡◌, ◌∙◌, ℕ, ◌≤◌, List, length, ap, sym, subst, arith}
+use Rattle.std.proofs.Common.{◌∙◌, ℕ, ◌≤◌, List, ap, sym, subst, arith}
 use Rattle.std.specs.Prelude.{All, Contains}
 use Rattle.std.proofs.lemmas.List.Elements.{All-contains}
-use Rattle.sat_base.specs.Lit.{IsLit, IsLitSet, IsTautology, variable, greatest_of, greatest_of_all}
+use Rattle.sat_base.specs.Lit.{IsLit, IsLitSet, variable, greatest_of}
 use Rattle.sat_base.proofs.Members.{Contains-from_map}
 use Rattle.std.specs.Prelude.{filter}
 use Rattle.trace_core.specs.Known.{Known}

@@ -8,5 +8,6 @@ use Rattle.session.specs.Solving.{Concludes, Learns}
 
 -- Nothing was learnt, and a clause is false or the search has a right answer.
 abbrev pub Descends : Search → Search → List ℕ → Descent → Type 0
-Descends old new cube (Conflict id) = Learns (solver_of old) (solver_of new) [] [] × IsConflict new id
+Descends old new cube (Conflict id) = Learns (solver_of old) (solver_of new) [] []
+    × IsConflict new id
 Descends old new cube (Ended round) = Concludes (solver_of old) (solver_of new) cube round

@@ -19,7 +19,12 @@ loaded solver clauses = record solver {
 
 -- Nothing but inputs came, behind the clauses that were there.
 pub record HasInputsOnly (old new : Search) : Type 0 where
-  pub parts : new ≡ record old { store = new.store; greatest = new.greatest; inputs = new.inputs; bound = new.bound }
+  pub parts : new ≡ record old {
+    store = new.store;
+    greatest = new.greatest;
+    inputs = new.inputs;
+    bound = new.bound;
+  }
   pub more : List ArenaClause
   pub clauses : new.store.clauses ≡ old.store.clauses ++ more
   pub vars : new.store.vars ≡ old.store.vars

@@ -10,7 +10,8 @@ pub record IsForcedAtZero (clauses : List (List ℕ)) (entries : List Entry) : T
       → IsForced clauses (take place entries) (entry_at entries place)
 
 -- Propagation was complete at each level below the depth.
-pub record IsCompleteBelow (clauses : List (List ℕ)) (entries : List Entry) (depth : ℕ) : Type 0 where
+pub record IsCompleteBelow (clauses : List (List ℕ)) (entries : List Entry)
+    (depth : ℕ) : Type 0 where
   pub each : (level : ℕ) → level < depth → IsComplete entries level clauses
 
 -- What holds of the trail whatever is asked.

@@ -12,13 +12,15 @@ use Rattle.session.specs.Solver.{Solver, shared_by}
 use Rattle.session.specs.Sharing.{Knows}
 use Rattle.session.specs.Session.{SessionView}
 
--- Only own steps have names, and each name is that of a step of a known packet, which has the own step's clause and tag.
+-- Only own steps have names, and each name is that of a step of a known packet, which has the own
+-- step's clause and tag.
 pub record AreNamesFit (solver : Solver) (names : List (Option Ref)) : Type 0 where
   pub right : AreNamesRight solver.inputs (shared_by solver.packets) solver.steps names
   pub few : length names ≤ length solver.steps
 
--- A packet that derives this clause, with its tag: its steps are ok over the inputs, the known packets and its own earlier steps, and are
--- own steps; no tag in it is above that of the clause, and no variable of the clause above those of the inputs up to its tag.
+-- A packet that derives this clause, with its tag: its steps are ok over the inputs, the known
+-- packets and its own earlier steps, and are own steps; no tag in it is above that of the clause,
+-- and no variable of the clause above those of the inputs up to its tag.
 pub record IsSharable (solver : Solver) (one : Known) (packet : List Step) : Type 0 where
   pub ok : AreOkSteps solver.inputs (shared_by solver.packets) [] packet
   pub ends : ends_in packet ≡ Some one
@@ -26,12 +28,16 @@ pub record IsSharable (solver : Solver) (one : Known) (packet : List Step) : Typ
   pub tags : (step : Step) → Contains packet step → step.tag ≤ one.tag
   pub within : greatest_of one.clause ≤ greatest_of_all (clauses_up_to solver.inputs one.tag)
 
--- The own steps of these numbers, in order, are named as the steps of this place's packet; other names stay.
+-- The own steps of these numbers, in order, are named as the steps of this place's packet; other
+-- names stay.
 pub record AreNamedAnew (old new : List (Option Ref)) (place : ℕ) (numbers : List ℕ) : Type 0 where
-  pub named : (i number : ℕ) → item_at numbers i ≡ Some number → name_of new number ≡ Some (Shared place i)
-  pub others : (number : ℕ) → (Contains numbers number → ⊥) → name_of new number ≡ name_of old number
+  pub named : (i number : ℕ) → item_at numbers i ≡ Some number
+      → name_of new number ≡ Some (Shared place i)
+  pub others : (number : ℕ) → (Contains numbers number → ⊥)
+      → name_of new number ≡ name_of old number
 
--- The place is known, its packet's steps are the names of the own steps that were packed, and nothing else changed.
+-- The place is known, its packet's steps are the names of the own steps that were packed, and
+-- nothing else changed.
 pub record Publishes (old new : SessionView) (step place : ℕ) (packet : List Step) : Type 0 where
   pub knows : Knows old.solver new.solver place packet
   pub numbers : List ℕ

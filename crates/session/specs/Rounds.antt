@@ -37,7 +37,8 @@ abbrev pub AreNamed : List Step → List ℕ → List Known → Type 0
 AreNamed steps [] [] = Unit {0}
 AreNamed steps [] (one ∷ more) = ⊥
 AreNamed steps (number ∷ numbers) [] = ⊥
-AreNamed steps (number ∷ numbers) (one ∷ more) = IsStep steps number one × AreNamed steps numbers more
+AreNamed steps (number ∷ numbers) (one ∷ more) = IsStep steps number one
+    × AreNamed steps numbers more
 
 -- the number of the step that an answer names
 abbrev pub step_of_round : Round → List ℕ

@@ -1,5 +1,6 @@
 -- What a search keeps between its steps.
-use Rattle.std.specs.Prelude.{◌≡◌, ◌⊎◌, ℕ, ◌<◌, ◌≤◌, List, [], ◌∷◌, ◌++◌, length, All, Contains, Option, option_map, map}
+use Rattle.std.specs.Prelude.{◌≡◌, ◌⊎◌, ℕ, ◌<◌, ◌≤◌, List, [], ◌∷◌, ◌++◌, length, All, Contains}
+use Rattle.std.specs.Prelude.{Option, option_map, map}
 use Rattle.std.specs.Arc.{arc_value}
 use Rattle.sat_base.specs.Lit.{greatest_of_all}
 use Rattle.sat_base.specs.declared.origins.Ref.{Ref}
@@ -46,7 +47,8 @@ pub record IsRoomy (search : Search) : Type 0 where
 pub record IsCounted (search : Search) : Type 0 where
   pub greatest : search.greatest ≡ greatest_of_all (clauses_of (inputs_of search.store.clauses))
   pub inputs : search.inputs ≡ length (inputs_of search.store.clauses)
-  pub learnt : All (λ number. (one : Known) × IsStep search.steps.items number one × Contains (held_of search.store.clauses) one) search.learnt.items
+  pub learnt : All (λ number. (one : Known) × IsStep search.steps.items number one
+      × Contains (held_of search.store.clauses) one) search.learnt.items
 
 -- What a search keeps whatever cube it is asked about.
 pub record IsSearching (search : Search) : Type 0 where
@@ -55,14 +57,16 @@ pub record IsSearching (search : Search) : Type 0 where
   pub counted : IsCounted search
   pub trail : IsTrail search.trail
   pub on : IsOnTrail (lits_of_each search.store.clauses) search.trail.entries search.trail.depth
-  pub named : IsNamed (table_of search) search.trail.entries search.units.items search.tags.items search.named
+  pub named : IsNamed (table_of search) search.trail.entries search.units.items search.tags.items
+      search.named
   pub all_named : 0 < search.trail.depth → (place : ℕ) → place < length search.trail.entries
       → (entry_at search.trail.entries place).level ≡ 0 → place < search.named
   pub cursor : AreAssigned (lits_of search.trail.entries) search.cursor
 
 -- every unit clause of level 0 has its name
 pub record AreAllNamed (search : Search) : Type 0 where
-  pub each : (place : ℕ) → place < length search.trail.entries → (entry_at search.trail.entries place).level ≡ 0 → place < search.named
+  pub each : (place : ℕ) → place < length search.trail.entries
+      → (entry_at search.trail.entries place).level ≡ 0 → place < search.named
 
 -- steps of one literal came behind these
 pub record HasUnitsMore (old new : List Step) : Type 0 where
@@ -80,7 +84,8 @@ pub record HasStepsMore (old new : List Step) (numbers : List ℕ) : Type 0 wher
   pub more : List Step
   pub is : new ≡ old ++ more
   pub ascend : AscendBetween (length old) numbers (length new)
-  pub each : (number : ℕ) (one : Known) → length old < number → IsStep new number one → Contains numbers number ⊎ (length one.clause ≡ 1)
+  pub each : (number : ℕ) (one : Known) → length old < number → IsStep new number one
+      → Contains numbers number ⊎ (length one.clause ≡ 1)
 
 -- The variables of the inputs and those that are reserved stay.
 pub record HasSameVariables (old new : Search) : Type 0 where
@@ -90,4 +95,5 @@ pub record HasSameVariables (old new : Search) : Type 0 where
 -- a clause that is false
 pub record IsConflict (search : Search) (id : ℕ) : Type 0 where
   pub known : id < length search.store.clauses
-  pub refuted : IsFalseClause (lits_of search.trail.entries) (clause_at search.store.clauses id).lits
+  pub refuted : IsFalseClause (lits_of search.trail.entries)
+      (clause_at search.store.clauses id).lits

@@ -3,7 +3,8 @@ use Rattle.std.specs.Prelude.{List, [], Option}
 use Rattle.sat_base.specs.declared.origins.Ref.{Ref}
 use Rattle.session.specs.Solver.{Solver}
 
--- the solver, and for each own step the name that it has in the shared database, if it was published
+-- the solver, and for each own step the name that it has in the shared database, if it was
+-- published
 pub record SessionView : Type 0 where
   pub solver : Solver
   pub names : List (Option Ref)

@@ -1,5 +1,6 @@
 -- How a clause of the shared database comes to a solver.
-use Rattle.std.specs.Prelude.{◌≡◌, ◌≢◌, ℕ, ◌≤◌, List, ◌∷◌, [], ◌++◌, map, length, replicate, Contains, Option, None, Some}
+use Rattle.std.specs.Prelude.{◌≡◌, ◌≢◌, ℕ, ◌≤◌, List, ◌∷◌, [], ◌++◌, map, length, replicate}
+use Rattle.std.specs.Prelude.{Contains, Option, None, Some}
 use Rattle.sat_base.specs.Lit.{IsLitSet, greatest_of, greatest_of_all}
 use Rattle.sat_base.specs.Truth.{Entails}
 use Rattle.sat_base.specs.declared.origins.Ref.TheVariants.{Shared}
@@ -10,8 +11,8 @@ use Rattle.trace_core.specs.declared.derivation.Step.{Step}
 use Rattle.session.specs.declared.search.Search.{Search}
 use Rattle.session.specs.Solver.{Solver, clauses_of, packet_at}
 
--- The packet's last clause can be taken in: its tag is at most the bound, it follows from the inputs, and its variables are those
--- of the inputs up to its tag.
+-- The packet's last clause can be taken in: its tag is at most the bound, it follows from the
+-- inputs, and its variables are those of the inputs up to its tag.
 pub record IsTakable (solver : Solver) (packet : List Step) (one : Known) : Type 0 where
   pub last : item_at (map known_of packet) (length packet) ≡ Some one
   pub bounded : one.tag ≤ solver.bound
@@ -19,7 +20,8 @@ pub record IsTakable (solver : Solver) (packet : List Step) (one : Known) : Type
   pub within : greatest_of one.clause ≤ greatest_of_all (clauses_up_to solver.inputs one.tag)
 
 -- exactly this place became known, with this packet
-pub record HasPlaceMore (old new : List (Option (List Step))) (place : ℕ) (packet : List Step) : Type 0 where
+pub record HasPlaceMore (old new : List (Option (List Step))) (place : ℕ)
+    (packet : List Step) : Type 0 where
   pub here : packet_at new place ≡ Some packet
   pub elsewhere : (other : ℕ) → other ≢ place → packet_at new other ≡ packet_at old other
 
@@ -54,5 +56,6 @@ pub record HoldsLast (old new : Search) (place : ℕ) (packet : List Step) : Typ
   pub one : Known
   pub last : item_at (map known_of packet) (length packet) ≡ Some one
   pub set : IsLitSet one.clause
-  pub clauses : new.store.clauses ≡ old.store.clauses ++ record { lits = one.clause; tag = one.tag; origin = Shared place (length packet) } ∷ []
+  pub clauses : new.store.clauses ≡ old.store.clauses
+      ++ record { lits = one.clause; tag = one.tag; origin = Shared place (length packet) } ∷ []
   pub vars : new.store.vars ≡ old.store.vars

@@ -1,5 +1,7 @@
 -- A solver as contracts see it, and what it keeps.
-use Rattle.std.specs.Prelude.{◌≡◌, ℕ, ◌≤◌, nat_lt, ◌==◌, Bool, true, false, if◌then◌else◌, List, [], ◌∷◌, length, map, filter, All, Contains, Option, None, Some, option_and_then}
+use Rattle.std.specs.Prelude.{◌≡◌, ℕ, ◌≤◌, nat_lt, ◌==◌, Bool, true, false, if◌then◌else◌, List, []}
+use Rattle.std.specs.Prelude.{◌∷◌, length, map, filter, All, Contains, Option, None, Some}
+use Rattle.std.specs.Prelude.{option_and_then}
 use Rattle.sat_base.specs.declared.origins.Ref.{Ref}
 use Rattle.sat_base.specs.declared.origins.Ref.TheVariants.{Input, Shared, Own}
 use Rattle.sat_base.specs.Lit.{IsTautology, greatest_of, greatest_of_all}
@@ -13,15 +15,18 @@ use Rattle.clause_arena.specs.Arena.{ArenaClause}
 -- the literal among these, which ascend, unless it is there
 abbrev pub put_in : ℕ → List ℕ → List ℕ
 put_in lit [] = lit ∷ []
-put_in lit (other ∷ lits) = if nat_lt lit other then lit ∷ other ∷ lits else (if lit == other then other ∷ lits else other ∷ put_in lit lits)
+put_in lit (other ∷ lits) =
+    if nat_lt lit other then lit ∷ other ∷ lits
+    else (if lit == other then other ∷ lits else other ∷ put_in lit lits)
 
 -- the literals of a clause in their one order
 abbrev pub in_order : List ℕ → List ℕ
 in_order [] = []
 in_order (lit ∷ lits) = put_in lit (in_order lits)
 
--- The inputs, each with the number of the first job that has it; the number of the job that is loaded; the clauses that are held;
--- the own steps, and the numbers of those that are learnt clauses; and the shared packet of each place that is known.
+-- The inputs, each with the number of the first job that has it; the number of the job that is
+-- loaded; the clauses that are held; the own steps, and the numbers of those that are learnt
+-- clauses; and the shared packet of each place that is known.
 pub record Solver : Type 0 where
   pub inputs : List Known
   pub bound : ℕ
@@ -48,7 +53,8 @@ packet_at packets place = option_and_then (λ found. found) (item_at packets pla
 -- of a packet its last step alone, the one whose clause is held
 abbrev pub last_step_of : Option (List Step) → ℕ → Option Known
 last_step_of None number = None
-last_step_of (Some packet) number = if number == length packet then item_at (map known_of packet) number else None
+last_step_of (Some packet) number =
+    if number == length packet then item_at (map known_of packet) number else None
 
 -- what a reference names to a solver with these inputs, packets and steps
 abbrev pub named_by : List Known → List (Option (List Step)) → List Step → Ref → Option Known
@@ -60,18 +66,22 @@ named_by inputs packets steps (Own number) = item_at (map known_of steps) number
 abbrev pub IsStep : List Step → ℕ → Known → Type 0
 IsStep steps number one = item_at (map known_of steps) number ≡ Some one
 
--- The variables of the clause, where it is no tautology, are at most the greatest one of the inputs up to its tag.
+-- The variables of the clause, where it is no tautology, are at most the greatest one of the inputs
+-- up to its tag.
 abbrev pub IsWithinItsTag : List Known → Known → Type 0
-IsWithinItsTag inputs one = (IsTautology one.clause → ⊥) → greatest_of one.clause ≤ greatest_of_all (clauses_up_to inputs one.tag)
+IsWithinItsTag inputs one = (IsTautology one.clause → ⊥)
+    → greatest_of one.clause ≤ greatest_of_all (clauses_up_to inputs one.tag)
 
--- What every solver keeps, whatever calls come: each input is held; each held clause is of literals, follows from
--- the inputs, stands under its name, has a tag up to the bound, and has no greater variable than the inputs up to
--- its tag; each own step is ok with exact tag over the inputs, the steps of the known packets and the own steps
--- before it, follows from the inputs, and has no greater variable than the inputs up to its tag; and learnt steps
--- and the last clauses of the known packets are held.
+-- What every solver keeps, whatever calls come: each input is held; each held clause is of
+-- literals, follows from the inputs, stands under its name, has a tag up to the bound, and has no
+-- greater variable than the inputs up to its tag; each own step is ok with exact tag over the
+-- inputs, the steps of the known packets and the own steps before it, follows from the inputs, and
+-- has no greater variable than the inputs up to its tag; and learnt steps and the last clauses of
+-- the known packets are held.
 pub record IsSound (solver : Solver) : Type 0 where
   pub inputs_held : All (Contains solver.held) solver.inputs
-  pub named : All (λ one. (name : Ref) × (named_by solver.inputs solver.packets solver.steps name ≡ Some one)) solver.held
+  pub named : All (λ one. (name : Ref) × (named_by solver.inputs solver.packets solver.steps name
+      ≡ Some one)) solver.held
   pub literals : All (λ one. All (λ lit. 2 ≤ lit) one.clause) solver.held
   pub entailed : All (λ one. Entails (clauses_of solver.inputs) one.clause) solver.held
   pub bounded : All (λ one. one.tag ≤ solver.bound) solver.held
@@ -79,8 +89,10 @@ pub record IsSound (solver : Solver) : Type 0 where
   pub steps_entailed : All (λ step. Entails (clauses_of solver.inputs) step.clause) solver.steps
   pub steps_within : All (λ step. IsWithinItsTag solver.inputs (known_of step)) solver.steps
   pub ok : AreOkSteps solver.inputs (shared_by solver.packets) [] solver.steps
-  pub packets_held : (place number : ℕ) (one : Known) → last_step_of (packet_at solver.packets place) number ≡ Some one → Contains solver.held one
-  pub learnt_held : All (λ number. (one : Known) × IsStep solver.steps number one × Contains solver.held one) solver.learnt
+  pub packets_held : (place number : ℕ) (one : Known)
+      → last_step_of (packet_at solver.packets place) number ≡ Some one → Contains solver.held one
+  pub learnt_held : All (λ number. (one : Known) × IsStep solver.steps number one
+      × Contains solver.held one) solver.learnt
 
 -- a clause as a set with its tag
 abbrev pub known_clause : ArenaClause → Known

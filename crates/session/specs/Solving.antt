@@ -11,8 +11,8 @@ use Rattle.session.specs.Fronts.{IsFront}
 use Rattle.session.specs.Rounds.{AreNew, AreNamed, step_of_round}
 use Rattle.session.specs.Refutations.{IsRefutation}
 
--- What no call takes away, whatever its answer: the inputs, the bound and the packets stay, and held clauses, own
--- steps and learnt steps come behind those that were there.
+-- What no call takes away, whatever its answer: the inputs, the bound and the packets stay, and
+-- held clauses, own steps and learnt steps come behind those that were there.
 pub record Keeps (old new : Solver) : Type 0 where
   pub inputs : new.inputs ≡ old.inputs
   pub bound : new.bound ≡ old.bound
@@ -26,10 +26,11 @@ abbrev pub IsProperOver : List Known → Known → Type 0
 IsProperOver inputs one =
     (IsTautology one.clause → ⊥) × (greatest_of one.clause ≤ greatest_of_all (clauses_of inputs))
 
--- These clauses were learnt, in order, and nothing else changed but that own steps came: each is held, is the
--- clause of a step that is listed as learnt, contains no clause that was held before or learnt earlier, is no
--- tautology, and is over the variables of the inputs. Each learnt clause came with one step of its own; all other
--- steps that came have one literal, or are among the last ones.
+-- These clauses were learnt, in order, and nothing else changed but that own steps came: each is
+-- held, is the clause of a step that is listed as learnt, contains no clause that was held before
+-- or learnt earlier, is no tautology, and is over the variables of the inputs. Each learnt clause
+-- came with one step of its own; all other steps that came have one literal, or are among the last
+-- ones.
 pub record Learns (old new : Solver) (more : List Known) (last : List ℕ) : Type 0 where
   pub inputs : new.inputs ≡ old.inputs
   pub bound : new.bound ≡ old.bound
@@ -61,7 +62,8 @@ pub record Concludes (old new : Solver) (cube : List ℕ) (round : Round) : Type
 -- A right answer after fewer than `limit` learnt clauses, or exactly so many and no answer.
 abbrev pub Ends : Solver → List ℕ → ℕ → ℕ → Round → Type 0
 Ends solver cube limit count (Model values) = IsRight solver cube (Model values) × (count < limit)
-Ends solver cube limit count (Refuted part number) = IsRight solver cube (Refuted part number) × (count < limit)
+Ends solver cube limit count (Refuted part number) = IsRight solver cube (Refuted part number)
+    × (count < limit)
 Ends solver cube limit count Paused = count ≡ limit
 
 pub record Solves (old new : Solver) (cube : List ℕ) (limit : ℕ) (round : Round) : Type 0 where

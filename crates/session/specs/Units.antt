@@ -1,5 +1,6 @@
 -- Unit clauses of level 0, and how they take false literals out of a clause.
-use Rattle.std.specs.Prelude.{◌≡◌, ◌≢◌, ℕ, ◌<◌, ◌≤◌, ◌==◌, not, Bool, false, List, [], ◌∷◌, filter, length, Contains, Option, None, Some}
+use Rattle.std.specs.Prelude.{◌≡◌, ◌≢◌, ℕ, ◌<◌, ◌≤◌, ◌==◌, not, Bool, false, List, [], ◌∷◌, filter}
+use Rattle.std.specs.Prelude.{length, Contains, Option, None, Some}
 use Rattle.sat_base.specs.Lit.{variable, opposite}
 use Rattle.sat_base.specs.declared.origins.Ref.{Ref}
 use Rattle.trace_core.specs.Known.{Known}
@@ -19,14 +20,20 @@ abbrev pub only_kept : Option ℕ → List ℕ
 only_kept None = []
 only_kept (Some kept) = kept ∷ []
 
--- The opposite of each literal of the clause but the kept one is known as a unit clause, under the name and with the tag of its variable.
+-- The opposite of each literal of the clause but the kept one is known as a unit clause, under the
+-- name and with the tag of its variable.
 abbrev pub KnowsOpposites : (Ref → Option Known) → List Ref → List ℕ → Option ℕ → List ℕ → Type 0
 KnowsOpposites table units tags kept lits =
-    (lit : ℕ) → Contains lits lit → kept ≢ Some lit → IsNameOf table (unit_of units (variable lit)) (opposite lit ∷ []) (tag_of_unit tags (variable lit))
+    (lit : ℕ) → Contains lits lit → kept ≢ Some lit
+    → IsNameOf table (unit_of units (variable lit)) (opposite lit ∷ [])
+    (tag_of_unit tags (variable lit))
 
--- The unit clause of each of the first literals of the trail is known under the name and with the tag of its variable, and these
--- literals are of level 0.
-pub record IsNamed (table : Ref → Option Known) (entries : List Entry) (units : List Ref) (tags : List ℕ) (named : ℕ) : Type 0 where
+-- The unit clause of each of the first literals of the trail is known under the name and with the
+-- tag of its variable, and these literals are of level 0.
+pub record IsNamed (table : Ref → Option Known) (entries : List Entry) (units : List Ref)
+    (tags : List ℕ) (named : ℕ) : Type 0 where
   pub within : named ≤ length entries
   pub zero : (place : ℕ) → place < named → (entry_at entries place).level ≡ 0
-  pub known : (place : ℕ) → place < named → IsNameOf table (unit_of units (variable (entry_at entries place).lit)) ((entry_at entries place).lit ∷ []) (tag_of_unit tags (variable (entry_at entries place).lit))
+  pub known : (place : ℕ) → place < named → IsNameOf table
+      (unit_of units (variable (entry_at entries place).lit)) ((entry_at entries place).lit ∷ [])
+      (tag_of_unit tags (variable (entry_at entries place).lit))

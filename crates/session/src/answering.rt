@@ -16,14 +16,14 @@ use std::alloc::AllocError;
 pub enum Conclusion {
     /// A model of the inputs and the cube.
     Model(Assign),
-    /// A refuted part of the cube, and the number of the own step that derives the clause of its negated
-    /// literals.
+    /// A refuted part of the cube, and the number of the own step that derives the clause of its
+    /// negated literals.
     Refuted(Cube, u64),
 }
 
-/// Rounds of `limit` learnt clauses until the cube has its answer. The search is at level 0 before and after.
-/// What was learnt is kept, also after want of memory. It comes to an end: over V variables there are at most 3^V clauses that aren't tautologies, and no clause
-/// is learnt twice.
+/// Rounds of `limit` learnt clauses until the cube has its answer. The search is at level 0 before
+/// and after. What was learnt is kept, also after want of memory. It comes to an end: over V
+/// variables there are at most 3^V clauses that aren't tautologies, and no clause is learnt twice.
 pub(crate) fn solve_until_answered(
     search: &mut Search,
     cube: &Cube,

@@ -1,6 +1,7 @@
 //! What a search does with a clause that is false.
 
-ghost use Rattle.std.specs.Prelude.{◌≡◌, ℕ, ◌<◌, [], ◌∷◌, ◌++◌, ◌≤◌, Some, length, Contains, OnOk, IfOk, IfSome, IfNone};
+ghost use Rattle.std.specs.Prelude.{◌≡◌, ℕ, ◌<◌, [], ◌∷◌, ◌++◌, ◌≤◌, Some, length, Contains, OnOk};
+ghost use Rattle.std.specs.Prelude.{IfOk, IfSome, IfNone};
 ghost use Rattle.sat_base.specs.Lit.{IsLitSet, variable};
 ghost use Rattle.sat_base.specs.declared.origins.Ref.TheVariants.{Own};
 ghost use Rattle.clause_arena.specs.Arena.{lits_of_each};
@@ -29,8 +30,8 @@ pub(crate) struct Lesson {
     step: Step,
 }
 
-/// Learns a clause from a clause that is false above level 0, adds it to the store, goes back to where it is
-/// unit, and makes its literal true.
+/// Learns a clause from a clause that is false above level 0, adds it to the store, goes back to
+/// where it is unit, and makes its literal true.
 pub(crate) fn learn_and_backjump(search: &mut Search, conflict: usize) -> Result<(), AllocError>
     requires kept { IsSearching search.old }
     requires deep { 0 < search.old.trail.depth }
@@ -59,7 +60,8 @@ fn assert_literal(search: &mut Search, lit: Lit, id: usize)
     requires kept { IsSearching search.old }
     requires within { variable lit ≤ search.old.trail.vars }
     requires free { IsUnassigned (lits_of search.old.trail.entries) lit }
-    requires forced { IsForced (lits_of_each search.old.store.clauses) search.old.trail.entries (record { lit = lit; level = search.old.trail.depth; reason = Some id }) }
+    requires forced { IsForced (lits_of_each search.old.store.clauses) search.old.trail.entries
+        (record { lit = lit; level = search.old.trail.depth; reason = Some id }) }
     ensures kept { IsSearching search.new }
     ensures parts { search.new ≡ record search.old { trail = search.new.trail } }
     ensures vars { search.new.trail.vars ≡ search.old.trail.vars }
@@ -93,19 +95,27 @@ fn analyze_conflict(search: &mut Search, conflict: usize) -> Result<Lesson, Allo
     })
 }
 
-// Adds the clause of an own step to the store, lists the step as learnt, and answers the clause's number.
+// Adds the clause of an own step to the store, lists the step as learnt, and answers the clause's
+// number.
 fn hold(search: &mut Search, clause: &Clause, tag: u32, number: u64) -> Result<usize, AllocError>
     requires kept { IsSearching search.old }
-    requires step { IsStep search.old.steps.items number (record { clause = clause.now; tag = tag }) }
+    requires step { IsStep search.old.steps.items number
+        (record { clause = clause.now; tag = tag }) }
     requires set { IsLitSet clause.now }
     requires within { AreWithin search.old.greatest clause.now }
-    requires open_below { (level : ℕ) → level < search.old.trail.depth → IsOpenClause (lits_of (up_to level search.old.trail.entries)) clause.now }
+    requires open_below { (level : ℕ) → level < search.old.trail.depth
+        → IsOpenClause (lits_of (up_to level search.old.trail.entries)) clause.now }
     ensures kept { IsSearching search.new }
-    ensures parts { search.new ≡ record search.old { store = search.new.store; learnt = search.new.learnt } }
+    ensures parts { search.new ≡ record search.old {
+      store = search.new.store;
+      learnt = search.new.learnt;
+    } }
     ensures keeps { Keeps (solver_of search.old) (solver_of search.new) }
     ensures number { IfOk result (λ id. id ≡ length search.old.store.clauses) }
-    ensures held { OnOk result (search.new.store.clauses ≡ search.old.store.clauses ++ record { lits = clause.now; tag = tag; origin = Own number } ∷ []) }
-    ensures listed { OnOk result (search.new.learnt.items ≡ search.old.learnt.items ++ number ∷ []) }
+    ensures held { OnOk result (search.new.store.clauses ≡ search.old.store.clauses
+        ++ record { lits = clause.now; tag = tag; origin = Own number } ∷ []) }
+    ensures listed { OnOk result (search.new.learnt.items ≡ search.old.learnt.items
+        ++ number ∷ []) }
 {
     let id = search.store.add(clause, tag, Ref::Own(number))?;
     search.learnt.push(number)?;
@@ -115,8 +125,10 @@ fn hold(search: &mut Search, clause: &Clause, tag: u32, number: u64) -> Result<u
 // The first literal of the clause that is unassigned.
 fn unassigned(trail: &Trail, clause: &Clause) -> Option<Lit>
     ensures set { IsLitSet clause.now }
-    ensures some { IfSome result (λ lit. Contains clause.now lit × IsUnassigned (lits_of trail.now.entries) lit) }
-    ensures none { IfNone result ((lit : ℕ) → Contains clause.now lit → IsUnassigned (lits_of trail.now.entries) lit → ⊥) }
+    ensures some { IfSome result (λ lit. Contains clause.now lit
+        × IsUnassigned (lits_of trail.now.entries) lit) }
+    ensures none { IfNone result ((lit : ℕ) → Contains clause.now lit
+        → IsUnassigned (lits_of trail.now.entries) lit → ⊥) }
 {
     for lit in clause.lits() {
         if trail.value(*lit).is_none() {

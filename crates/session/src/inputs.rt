@@ -9,8 +9,8 @@ use crate::search::Search;
 use sat_base::{Clause, Cube, Lit, Ref};
 use std::alloc::AllocError;
 
-/// Adds the clauses of the next job behind the inputs, and makes it the job that is loaded. The variables of
-/// its cube are reserved besides. After want of memory the solver is as before.
+/// Adds the clauses of the next job behind the inputs, and makes it the job that is loaded. The
+/// variables of its cube are reserved besides. After want of memory the solver is as before.
 pub(crate) fn load(search: &mut Search, cube: &Cube, clauses: &[Clause]) -> Result<(), AllocError>
     requires kept { IsSearching search.old }
     requires zero { search.old.trail.depth ≡ 0 }
@@ -41,7 +41,8 @@ pub(crate) fn load(search: &mut Search, cube: &Cube, clauses: &[Clause]) -> Resu
     }
 }
 
-// Adds inputs of this job, whose variables are reserved. After want of memory some of them may be there.
+// Adds inputs of this job, whose variables are reserved. After want of memory some of them may be
+// there.
 fn push_clauses(search: &mut Search, clauses: &[Clause], job: u32) -> Result<(), AllocError>
     requires kept { IsSearching search.old }
     requires zero { search.old.trail.depth ≡ 0 }
@@ -78,13 +79,15 @@ fn push_clause(search: &mut Search, clause: &Clause, job: u32) -> Result<(), All
     Ok(())
 }
 
-/// Reserves the variables 1 to `vars`; those that are reserved already stay so. The solver stays as it is.
+/// Reserves the variables 1 to `vars`; those that are reserved already stay so. The solver stays as
+/// it is.
 pub(crate) fn reserve(search: &mut Search, vars: u32) -> Result<(), AllocError>
     requires kept { IsSearching search.old }
     ensures kept { IsSearching search.new }
     ensures solver { solver_of search.new ≡ solver_of search.old }
     ensures depth { search.new.trail.depth ≡ search.old.trail.depth }
-    ensures numbers { (search.new.greatest ≡ search.old.greatest) × (search.new.inputs ≡ search.old.inputs) }
+    ensures numbers { (search.new.greatest ≡ search.old.greatest)
+        × (search.new.inputs ≡ search.old.inputs) }
     ensures clauses { search.new.store.clauses ≡ search.old.store.clauses }
     ensures ok { OnOk result (vars ≤ search.new.trail.vars) }
 {

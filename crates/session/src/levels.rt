@@ -14,7 +14,8 @@ use sat_base::Lit;
 /// Opens a level with a decision.
 pub(crate) fn decide(search: &mut Search, lit: Lit)
     requires kept { IsSearching search.old }
-    requires complete { IsComplete search.old.trail.entries search.old.trail.depth (lits_of_each search.old.store.clauses) }
+    requires complete { IsComplete search.old.trail.entries search.old.trail.depth
+        (lits_of_each search.old.store.clauses) }
     requires all_named { AreAllNamed search.old }
     requires is { IsLit lit }
     requires within { variable lit ≤ search.old.trail.vars }
@@ -23,7 +24,8 @@ pub(crate) fn decide(search: &mut Search, lit: Lit)
     ensures parts { search.new ≡ record search.old { trail = search.new.trail } }
     ensures vars { search.new.trail.vars ≡ search.old.trail.vars }
     ensures longer { length search.new.trail.entries ≡ length search.old.trail.entries + 1 }
-    ensures decision { (cube : List ℕ) → IsChoice cube (lits_of search.old.trail.entries) lit → IsForCube cube search.old.trail.entries
+    ensures decision { (cube : List ℕ) → IsChoice cube (lits_of search.old.trail.entries) lit
+        → IsForCube cube search.old.trail.entries
         → IsForCube cube search.new.trail.entries }
 {
     search.trail.open_level();

@@ -10,8 +10,8 @@ use sat_base::{Assign, Lit};
 use std::alloc::{AllocError, Global};
 use trail_core::Trail;
 
-/// The assignment of the variables 1 to `vars` under which the literals of the trail are true; a variable
-/// that isn't assigned is false.
+/// The assignment of the variables 1 to `vars` under which the literals of the trail are true; a
+/// variable that isn't assigned is false.
 pub(crate) fn assignment(alloc: Global, trail: &Trail, vars: u32) -> Result<Assign, AllocError>
     requires { vars ≤ 8388607 }
     ensures { IfOk result (λ values. IsAssignmentOf (lits_of trail.now.entries) vars values) }

@@ -21,9 +21,9 @@ pub(crate) enum Move {
     Stop,
 }
 
-/// The cube's first literal that isn't true comes first, as the next decision where it is unassigned. Then it
-/// is a free variable, and none is left where the trail is a model. All variables up to the cursor are assigned,
-/// before and after.
+/// The cube's first literal that isn't true comes first, as the next decision where it is
+/// unassigned. Then it is a free variable, and none is left where the trail is a model. All
+/// variables up to the cursor are assigned, before and after.
 pub(crate) fn next_move(trail: &Trail, cursor: &mut u32, cube: &Cube, vars: u32) -> Move
     requires few { vars ≤ 8388607 }
     requires assigned { AreAssigned (lits_of trail.now.entries) cursor.old }
@@ -45,7 +45,8 @@ pub(crate) fn next_move(trail: &Trail, cursor: &mut u32, cube: &Cube, vars: u32)
 
 // The first literal of the cube that isn't true.
 fn first_open(trail: &Trail, cube: &Cube) -> Option<Lit>
-    ensures some { IfSome result (λ lit. IsLit lit × Contains cube.now lit × (IsTrueLit (lits_of trail.now.entries) lit → ⊥)) }
+    ensures some { IfSome result (λ lit. IsLit lit × Contains cube.now lit
+        × (IsTrueLit (lits_of trail.now.entries) lit → ⊥)) }
     ensures none { IfNone result (IsCubeTrue (lits_of trail.now.entries) cube.now) }
 {
     for lit in cube.lits() {
@@ -57,7 +58,8 @@ fn first_open(trail: &Trail, cube: &Cube) -> Option<Lit>
 }
 
 pub(crate) fn is_true(trail: &Trail, lit: Lit) -> bool
-    ensures value { MatchBool result (IsTrueLit (lits_of trail.now.entries) lit) (IsTrueLit (lits_of trail.now.entries) lit → ⊥) }
+    ensures value { MatchBool result (IsTrueLit (lits_of trail.now.entries) lit)
+        (IsTrueLit (lits_of trail.now.entries) lit → ⊥) }
     ensures trail { IsTrail trail.now }
 {
     match trail.value(lit) {
@@ -66,13 +68,14 @@ pub(crate) fn is_true(trail: &Trail, lit: Lit) -> bool
     }
 }
 
-// The place where a free variable is chosen: the least one, which becomes false. The cursor spares the walk over
-// the variables below it.
+// The place where a free variable is chosen: the least one, which becomes false. The cursor spares
+// the walk over the variables below it.
 fn next_free(trail: &Trail, cursor: &mut u32, vars: u32) -> Option<Lit>
     requires few { vars ≤ 8388607 }
     requires assigned { AreAssigned (lits_of trail.now.entries) cursor.old }
     ensures assigned { AreAssigned (lits_of trail.now.entries) cursor.new }
-    ensures some { IfSome result (λ lit. IsLit lit × (variable lit ≤ vars) × IsUnassigned (lits_of trail.now.entries) lit) }
+    ensures some { IfSome result (λ lit. IsLit lit × (variable lit ≤ vars)
+        × IsUnassigned (lits_of trail.now.entries) lit) }
     ensures none { IfNone result (AreAssigned (lits_of trail.now.entries) vars) }
 {
     let begin = (*cursor).min(vars);
@@ -92,9 +95,12 @@ fn next_free(trail: &Trail, cursor: &mut u32, vars: u32) -> Option<Lit>
 fn free_among(trail: &Trail, first: u32, last: u32) -> Option<Lit>
     requires low { 1 ≤ first }
     requires high { last ≤ 8388607 }
-    ensures some { IfSome result (λ lit. IsLit lit × (variable lit ≤ last) × IsUnassigned (lits_of trail.now.entries) lit) }
-    ensures least { IfSome result (λ lit. (other : ℕ) → IsLit other → first ≤ variable other → variable other < variable lit → IsUnassigned (lits_of trail.now.entries) other → ⊥) }
-    ensures none { IfNone result ((lit : ℕ) → IsLit lit → first ≤ variable lit → variable lit ≤ last → IsUnassigned (lits_of trail.now.entries) lit → ⊥) }
+    ensures some { IfSome result (λ lit. IsLit lit × (variable lit ≤ last)
+        × IsUnassigned (lits_of trail.now.entries) lit) }
+    ensures least { IfSome result (λ lit. (other : ℕ) → IsLit other → first ≤ variable other
+        → variable other < variable lit → IsUnassigned (lits_of trail.now.entries) other → ⊥) }
+    ensures none { IfNone result ((lit : ℕ) → IsLit lit → first ≤ variable lit
+        → variable lit ≤ last → IsUnassigned (lits_of trail.now.entries) lit → ⊥) }
 {
     for var in first..last + 1 {
         let lit = negative(var);

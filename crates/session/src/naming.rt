@@ -18,7 +18,12 @@ pub(crate) fn name_units(search: &mut Search) -> Result<(), AllocError>
     requires zero { search.old.trail.depth ≡ 0 }
     ensures kept { IsSearching search.new }
     ensures all { OnOk result (search.new.named ≡ length search.old.trail.entries) }
-    ensures parts { search.new ≡ record search.old { units = search.new.units; tags = search.new.tags; named = search.new.named; steps = search.new.steps } }
+    ensures parts { search.new ≡ record search.old {
+      units = search.new.units;
+      tags = search.new.tags;
+      named = search.new.named;
+      steps = search.new.steps;
+    } }
     ensures steps { HasUnitsMore search.old.steps.items search.new.steps.items }
 {
     while search.named < search.trail.lits().len() {
@@ -34,7 +39,12 @@ fn name_next(search: &mut Search) -> Result<(), AllocError>
     requires some { search.old.named < length search.old.trail.entries }
     ensures kept { IsSearching search.new }
     ensures one { OnOk result (search.new.named ≡ search.old.named + 1) }
-    ensures parts { search.new ≡ record search.old { units = search.new.units; tags = search.new.tags; named = search.new.named; steps = search.new.steps } }
+    ensures parts { search.new ≡ record search.old {
+      units = search.new.units;
+      tags = search.new.tags;
+      named = search.new.named;
+      steps = search.new.steps;
+    } }
     ensures steps { HasUnitsMore search.old.steps.items search.new.steps.items }
 {
     let lit = search.trail.lits()[search.named];
@@ -49,8 +59,8 @@ fn name_next(search: &mut Search) -> Result<(), AllocError>
     Ok(())
 }
 
-// The name and the tag of the unit clause of a literal of level 0: those of its reason, where this has no
-// other literal, else those of a new step.
+// The name and the tag of the unit clause of a literal of level 0: those of its reason, where this
+// has no other literal, else those of a new step.
 fn unit_name(search: &mut Search, lit: Lit, id: usize) -> Result<(Ref, u32), AllocError>
     requires kept { IsSearching search.old }
     requires next { lit ≡ (entry_at search.old.trail.entries search.old.named).lit }
@@ -58,7 +68,8 @@ fn unit_name(search: &mut Search, lit: Lit, id: usize) -> Result<(Ref, u32), All
     requires some { search.old.named < length search.old.trail.entries }
     requires zero { search.old.trail.depth ≡ 0 }
     ensures kept { IsSearching search.new }
-    ensures name { IfOk result (λ answer. IsNameOf (table_of search.new) answer.0 (lit ∷ []) answer.1) }
+    ensures name { IfOk result (λ answer. IsNameOf (table_of search.new) answer.0
+        (lit ∷ []) answer.1) }
     ensures parts { search.new ≡ record search.old { steps = search.new.steps } }
     ensures steps { HasUnitsMore search.old.steps.items search.new.steps.items }
 {

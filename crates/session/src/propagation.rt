@@ -4,7 +4,8 @@ ghost use Rattle.std.specs.Prelude.{◌≡◌, ◌≤◌, [], length, IfOk, OnOk
 ghost use Rattle.trail_core.specs.UnderTrail.{IsComplete};
 ghost use Rattle.clause_arena.specs.Arena.{lits_of_each};
 ghost use Rattle.session.specs.OnTrail.{AddsNoDecision};
-ghost use Rattle.session.specs.Searching.{IsSearching, HasSameVariables, IsConflict, HasUnitsMore, AreAllNamed, solver_of};
+ghost use Rattle.session.specs.Searching.{IsSearching, HasSameVariables, IsConflict, HasUnitsMore};
+ghost use Rattle.session.specs.Searching.{AreAllNamed, solver_of};
 ghost use Rattle.session.specs.Solving.{Learns};
 
 use crate::naming::name_units;
@@ -12,8 +13,8 @@ use crate::search::Search;
 use propagate::propagate;
 use std::alloc::AllocError;
 
-/// Propagates, and where no clause is false, sees to it that the unit clauses of level 0 have names. Answers
-/// the number of a clause that is false, or none.
+/// Propagates, and where no clause is false, sees to it that the unit clauses of level 0 have
+/// names. Answers the number of a clause that is false, or none.
 pub(crate) fn propagate_and_name(search: &mut Search) -> Result<Option<usize>, AllocError>
     requires kept { IsSearching search.old }
     ensures kept { IsSearching search.new }
@@ -22,7 +23,9 @@ pub(crate) fn propagate_and_name(search: &mut Search) -> Result<Option<usize>, A
     ensures decisions { AddsNoDecision search.old.trail.entries search.new.trail.entries }
     ensures grown { length search.old.trail.entries ≤ length search.new.trail.entries }
     ensures conflict { IfOk result (λ found. IfSome found (IsConflict search.new)) }
-    ensures complete { IfOk result (λ found. IfNone found (IsComplete search.new.trail.entries search.new.trail.depth (lits_of_each search.new.store.clauses))) }
+    ensures complete { IfOk result (λ found. IfNone found
+        (IsComplete search.new.trail.entries search.new.trail.depth
+        (lits_of_each search.new.store.clauses))) }
     ensures all_named { IfOk result (λ found. IfNone found (AreAllNamed search.new)) }
 {
     let found = propagate(&mut search.store, &mut search.trail);
@@ -41,7 +44,12 @@ pub(crate) fn propagate_and_name(search: &mut Search) -> Result<Option<usize>, A
 fn name_zero(search: &mut Search) -> Result<(), AllocError>
     requires kept { IsSearching search.old }
     ensures kept { IsSearching search.new }
-    ensures parts { search.new ≡ record search.old { units = search.new.units; tags = search.new.tags; named = search.new.named; steps = search.new.steps } }
+    ensures parts { search.new ≡ record search.old {
+      units = search.new.units;
+      tags = search.new.tags;
+      named = search.new.named;
+      steps = search.new.steps;
+    } }
     ensures steps { HasUnitsMore search.old.steps.items search.new.steps.items }
     ensures all_named { OnOk result (AreAllNamed search.new) }
 {

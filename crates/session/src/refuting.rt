@@ -18,18 +18,22 @@ use analyze::refute;
 use sat_base::{Cube, Lit};
 use std::alloc::AllocError;
 
-/// The part of a cube that is to blame for a literal of it that is false, and the number of the own step
-/// that derives the part's negation.
+/// The part of a cube that is to blame for a literal of it that is false, and the number of the own
+/// step that derives the part's negation.
 pub(crate) fn refute_literal(search: &mut Search, lit: Lit) -> Result<(Cube, u64), AllocError>
     requires kept { IsSearching search.old }
-    requires units { KnowsUnits (table_of search.old) search.old.trail.entries search.old.units.items search.old.tags.items }
+    requires units { KnowsUnits (table_of search.old) search.old.trail.entries
+        search.old.units.items search.old.tags.items }
     requires refuted { IsFalseLit (lits_of search.old.trail.entries) lit }
     ensures kept { IsSearching search.new }
     ensures parts { search.new ≡ record search.old { steps = search.new.steps } }
     ensures steps { IsFront search.old.steps.items search.new.steps.items }
-    ensures last { IfOk result (λ answer. HasStepsMore search.old.steps.items search.new.steps.items (answer.1 ∷ [])) }
-    ensures answer { IfOk result (λ answer. (cube : List ℕ) → IsForCube cube search.old.trail.entries → Contains cube lit
-        → IsRefutation (inputs_of search.old.store.clauses) search.new.steps.items cube answer.0 answer.1) }
+    ensures last { IfOk result
+        (λ answer. HasStepsMore search.old.steps.items search.new.steps.items (answer.1 ∷ [])) }
+    ensures answer { IfOk result (λ answer. (cube : List ℕ)
+        → IsForCube cube search.old.trail.entries → Contains cube lit
+        → IsRefutation (inputs_of search.old.store.clauses) search.new.steps.items cube
+        answer.0 answer.1) }
 {
     let (part, step) = refute(
         search.alloc,
@@ -44,17 +48,27 @@ pub(crate) fn refute_literal(search: &mut Search, lit: Lit) -> Result<(Cube, u64
     Ok((part, number))
 }
 
-/// The empty part, and the number of the own step of the empty clause, where a clause is false at level 0.
+/// The empty part, and the number of the own step of the empty clause, where a clause is false at
+/// level 0.
 pub(crate) fn refute_all(search: &mut Search, conflict: usize) -> Result<(Cube, u64), AllocError>
     requires kept { IsSearching search.old }
     requires zero { search.old.trail.depth ≡ 0 }
     requires known { conflict < length search.old.store.clauses }
-    requires refuted { IsFalseClause (lits_of search.old.trail.entries) (clause_at search.old.store.clauses conflict).lits }
+    requires refuted { IsFalseClause (lits_of search.old.trail.entries)
+        (clause_at search.old.store.clauses conflict).lits }
     ensures kept { IsSearching search.new }
-    ensures parts { search.new ≡ record search.old { units = search.new.units; tags = search.new.tags; named = search.new.named; steps = search.new.steps } }
+    ensures parts { search.new ≡ record search.old {
+      units = search.new.units;
+      tags = search.new.tags;
+      named = search.new.named;
+      steps = search.new.steps;
+    } }
     ensures steps { IsFront search.old.steps.items search.new.steps.items }
-    ensures last { IfOk result (λ answer. HasStepsMore search.old.steps.items search.new.steps.items (answer.1 ∷ [])) }
-    ensures answer { IfOk result (λ answer. (cube : List ℕ) → IsRefutation (inputs_of search.old.store.clauses) search.new.steps.items cube answer.0 answer.1) }
+    ensures last { IfOk result
+        (λ answer. HasStepsMore search.old.steps.items search.new.steps.items (answer.1 ∷ [])) }
+    ensures answer { IfOk result (λ answer. (cube : List ℕ)
+        → IsRefutation (inputs_of search.old.store.clauses) search.new.steps.items cube
+        answer.0 answer.1) }
 {
     name_units(search)?;
     let step = unit_step(

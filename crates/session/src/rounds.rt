@@ -2,18 +2,20 @@
 //!
 //! - Propagate unit clauses: `propagate_and_name`.
 //! - If a clause is false at level 0, the inputs are refuted: `refute_all`.
-//! - If a clause is false above level 0, analyze the conflict to its first unique implication point, learn the
-//!   clause that it gives, jump back to where this is unit, and assert its literal: `learn_and_backjump`.
+//! - If a clause is false above level 0, analyze the conflict to its first unique implication
+//!   point, learn the clause that it gives, jump back to where this is unit, and assert its
+//!   literal: `learn_and_backjump`.
 //! - Else if an assumption is false, a part of the cube is refuted: `refute_literal`.
-//! - Else if an assumption is unassigned, it is the next decision; then it is a free variable: `next_move` and
-//!   `decide`.
+//! - Else if an assumption is unassigned, it is the next decision; then it is a free variable:
+//!   `next_move` and `decide`.
 //! - Else all variables are assigned, and the trail is a model: `assignment`.
 
 ghost use Rattle.std.specs.Prelude.{◌≡◌, ℕ, ◌<◌, List, [], length, IfOk, IfSome, IfNone};
 ghost use Rattle.trail_core.specs.UnderTrail.{IsComplete};
 ghost use Rattle.clause_arena.specs.Arena.{lits_of_each};
 ghost use Rattle.session.specs.OnTrail.{AddsNoDecision};
-ghost use Rattle.session.specs.Searching.{IsSearching, AreAllNamed, HasSameVariables, IsConflict, solver_of};
+ghost use Rattle.session.specs.Searching.{IsSearching, AreAllNamed, HasSameVariables, IsConflict};
+ghost use Rattle.session.specs.Searching.{solver_of};
 ghost use Rattle.session.specs.Rounds.{IsInRound};
 ghost use Rattle.session.specs.Descents.{Descends};
 ghost use Rattle.session.specs.Solving.{Concludes, Keeps, Learns, LearnsOne, Solves};
@@ -33,8 +35,8 @@ use std::alloc::AllocError;
 pub enum Round {
     /// A model of the inputs and the cube.
     Model(Assign),
-    /// A refuted part of the cube, and the number of the own step that derives the clause of its negated
-    /// literals.
+    /// A refuted part of the cube, and the number of the own step that derives the clause of its
+    /// negated literals.
     Refuted(Cube, u64),
     /// As many clauses as the limit were learnt.
     Paused,
@@ -59,7 +61,8 @@ pub(crate) fn run_round(
     requires round { IsInRound search.old cube.now vars }
     ensures kept { IsSearching search.new }
     ensures keeps { Keeps (solver_of search.old) (solver_of search.new) }
-    ensures round { IfOk result (Solves (solver_of search.old) (solver_of search.new) cube.now limit) }
+    ensures round { IfOk result (Solves (solver_of search.old)
+        (solver_of search.new) cube.now limit) }
 {
     let mut count = 0;
     while count < limit {
@@ -76,8 +79,10 @@ fn learn_or_answer(search: &mut Search, cube: &Cube, vars: u32) -> Result<Option
     requires round { IsInRound search.old cube.now vars }
     ensures round { IsInRound search.new cube.now vars }
     ensures keeps { Keeps (solver_of search.old) (solver_of search.new) }
-    ensures ends { IfOk result (λ end. IfSome end (Concludes (solver_of search.old) (solver_of search.new) cube.now)) }
-    ensures learns { IfOk result (λ end. IfNone end (LearnsOne (solver_of search.old) (solver_of search.new))) }
+    ensures ends { IfOk result (λ end. IfSome end
+        (Concludes (solver_of search.old) (solver_of search.new) cube.now)) }
+    ensures learns { IfOk result (λ end. IfNone end
+        (LearnsOne (solver_of search.old) (solver_of search.new))) }
 {
     match descend(search, cube, vars)? {
         Descent::Ended(round) => Ok(Some(round)),
@@ -93,8 +98,11 @@ fn resolve_conflict(search: &mut Search, id: usize) -> Result<Option<Round>, All
     ensures keeps { Keeps (solver_of search.old) (solver_of search.new) }
     ensures variables { HasSameVariables search.old search.new }
     ensures decisions { AddsNoDecision search.old.trail.entries search.new.trail.entries }
-    ensures ends { IfOk result (λ end. IfSome end (λ round. (cube : List ℕ) → Concludes (solver_of search.old) (solver_of search.new) cube round)) }
-    ensures learns { IfOk result (λ end. IfNone end (LearnsOne (solver_of search.old) (solver_of search.new))) }
+    ensures ends { IfOk result (λ end. IfSome end
+        (λ round. (cube : List ℕ) → Concludes (solver_of search.old)
+        (solver_of search.new) cube round)) }
+    ensures learns { IfOk result (λ end. IfNone end
+        (LearnsOne (solver_of search.old) (solver_of search.new))) }
 {
     if search.trail.depth() != 0 {
         learn_and_backjump(search, id)?;
@@ -129,9 +137,11 @@ fn propagate_and_decide(
     ensures round { IsInRound search.new cube.now vars }
     ensures keeps { Keeps (solver_of search.old) (solver_of search.new) }
     ensures ends { IfOk result (λ end. IfSome end (Descends search.old search.new cube.now)) }
-    ensures learns { IfOk result (λ end. IfNone end (Learns (solver_of search.old) (solver_of search.new) [] [])) }
+    ensures learns { IfOk result (λ end. IfNone end
+        (Learns (solver_of search.old) (solver_of search.new) [] [])) }
     ensures vars { search.new.trail.vars ≡ search.old.trail.vars }
-    ensures longer { IfOk result (λ end. IfNone end (length search.old.trail.entries < length search.new.trail.entries)) }
+    ensures longer { IfOk result (λ end. IfNone end
+        (length search.old.trail.entries < length search.new.trail.entries)) }
 {
     match propagate_and_name(search)? {
         Some(id) => Ok(Some(Descent::Conflict(id))),
@@ -146,14 +156,17 @@ fn decide_or_answer(
     vars: u32,
 ) -> Result<Option<Descent>, AllocError>
     requires round { IsInRound search.old cube.now vars }
-    requires complete { IsComplete search.old.trail.entries search.old.trail.depth (lits_of_each search.old.store.clauses) }
+    requires complete { IsComplete search.old.trail.entries search.old.trail.depth
+        (lits_of_each search.old.store.clauses) }
     requires all_named { AreAllNamed search.old }
     ensures round { IsInRound search.new cube.now vars }
     ensures keeps { Keeps (solver_of search.old) (solver_of search.new) }
     ensures ends { IfOk result (λ end. IfSome end (Descends search.old search.new cube.now)) }
-    ensures learns { IfOk result (λ end. IfNone end (Learns (solver_of search.old) (solver_of search.new) [] [])) }
+    ensures learns { IfOk result (λ end. IfNone end
+        (Learns (solver_of search.old) (solver_of search.new) [] [])) }
     ensures vars { search.new.trail.vars ≡ search.old.trail.vars }
-    ensures longer { IfOk result (λ end. IfNone end (length search.old.trail.entries < length search.new.trail.entries)) }
+    ensures longer { IfOk result (λ end. IfNone end
+        (length search.old.trail.entries < length search.new.trail.entries)) }
 {
     match next_move(&search.trail, &mut search.cursor, cube, vars) {
         Move::Decide(lit) => {

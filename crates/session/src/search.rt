@@ -22,8 +22,8 @@ pub(crate) struct Search {
     pub(crate) store: Store,
     pub(crate) trail: Trail,
     pub(crate) scratch: Scratch,
-    // For each variable of level 0 the name and the tag of the clause of its one true literal; the first
-    // so many literals of the trail have theirs.
+    // For each variable of level 0 the name and the tag of the clause of its one true literal; the
+    // first so many literals of the trail have theirs.
     pub(crate) units: Vec<Ref>,
     pub(crate) tags: Vec<u32>,
     pub(crate) named: usize,
@@ -44,7 +44,14 @@ impl Search {
     /// A search without inputs, at level 0. Takes no memory.
     pub(crate) fn new(alloc: Global) -> Search
         ensures kept { IsSearching result }
-        ensures solver { solver_of result ≡ record { inputs = []; bound = 0; held = []; steps = []; learnt = []; packets = [] } }
+        ensures solver { solver_of result ≡ record {
+          inputs = [];
+          bound = 0;
+          held = [];
+          steps = [];
+          learnt = [];
+          packets = [];
+        } }
         ensures zero { result.trail.depth ≡ 0 }
         ensures none { result.inputs ≡ 0 }
     {

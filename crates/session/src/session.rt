@@ -1,6 +1,7 @@
 //! Sessions.
 
-ghost use Rattle.std.specs.Prelude.{◌≡◌, ◌+◌, ◌<◌, ◌≤◌, [], None, length, is_some, IfOk, OnOk, OnErr};
+ghost use Rattle.std.specs.Prelude.{◌≡◌, ◌+◌, ◌<◌, ◌≤◌, [], None, length, is_some, IfOk, OnOk};
+ghost use Rattle.std.specs.Prelude.{OnErr};
 ghost use Rattle.std.specs.Arc.{arc_value};
 ghost use Rattle.trace_core.specs.Known.{Known};
 ghost use Rattle.session.specs.Solver.{IsSound, packet_at};
@@ -43,8 +44,8 @@ impl Model for Session {
 }
 
 impl Session {
-    /// A session without clauses. Takes no memory. The variant is for the order of decisions, and has no
-    /// effect yet.
+    /// A session without clauses. Takes no memory. The variant is for the order of decisions, and
+    /// has no effect yet.
     pub fn new(alloc: Global, _variant: u32) -> Session
         ensures { result ≡ record { solver = no_inputs; names = [] } }
     {
@@ -54,32 +55,35 @@ impl Session {
         }
     }
 
-    /// Adds the clauses of the next job behind the inputs, and makes it the job that is loaded. The variables of
-    /// its cube are reserved besides. After want of memory the session is as before.
+    /// Adds the clauses of the next job behind the inputs, and makes it the job that is loaded. The
+    /// variables of its cube are reserved besides. After want of memory the session is as before.
     pub fn load(&mut self, clauses: &[Clause], cube: &Cube) -> Result<(), AllocError>
         requires clauses { length self.old.solver.inputs + length clauses.now ≤ 16777216 }
         requires jobs { self.old.solver.bound < 1048576 }
-        ensures ok { OnOk result (self.new ≡ record self.old { solver = loaded self.old.solver clauses.now }) }
+        ensures ok { OnOk result (self.new
+            ≡ record self.old { solver = loaded self.old.solver clauses.now }) }
         ensures err { OnErr result (self.new ≡ self.old) }
     {
         load(&mut self.search, cube, clauses)
     }
 
-    /// Takes in the last clause of the packet of this place of the shared database, and knows the place from now
-    /// on. After want of memory the session is as before.
+    /// Takes in the last clause of the packet of this place of the shared database, and knows the
+    /// place from now on. After want of memory the session is as before.
     pub fn import(&mut self, place: u32, packet: &Arc<Packet>) -> Result<(), AllocError>
         requires place { 1 ≤ place }
         requires unknown { packet_at self.old.solver.packets place ≡ None }
         requires takable { (one : Known) × IsTakable self.old.solver (arc_value packet.now) one }
-        ensures ok { OnOk result ((one : Known) × HasTaken self.old.solver self.new.solver place (arc_value packet.now) one) }
+        ensures ok { OnOk result ((one : Known) × HasTaken self.old.solver self.new.solver place
+            (arc_value packet.now) one) }
         ensures names { self.new.names ≡ self.old.names }
         ensures err { OnErr result (self.new ≡ self.old) }
     {
         take_in(&mut self.search, place, packet)
     }
 
-    /// One round of at most `limit` learnt clauses, which are kept: a model of exactly the variables 1 to the greatest
-    /// one of the inputs and the cube, a refuted part of the cube with the own step of its negation, or a pause.
+    /// One round of at most `limit` learnt clauses, which are kept: a model of exactly the
+    /// variables 1 to the greatest one of the inputs and the cube, a refuted part of the cube with
+    /// the own step of its negation, or a pause.
     pub fn solve(&mut self, cube: &Cube, limit: u64) -> Result<Round, AllocError>
         requires some { 0 < limit }
         ensures round { IfOk result (Solves self.old.solver self.new.solver cube.now limit) }
@@ -89,8 +93,8 @@ impl Session {
         solve(&mut self.search, cube, limit)
     }
 
-    /// Rounds of `limit` learnt clauses until the cube has its answer. It comes to an end, since no clause is learnt
-    /// twice.
+    /// Rounds of `limit` learnt clauses until the cube has its answer. It comes to an end, since no
+    /// clause is learnt twice.
     pub fn solve_until_answered(
         &mut self,
         cube: &Cube,

@@ -1,13 +1,15 @@
 //! Clauses of the shared database.
 
-ghost use Rattle.std.specs.Prelude.{◌≡◌, ℕ, ◌∷◌, [], ◌++◌, ◌-◌, ◌≤◌, None, Some, map, length, replicate, slice_set, OnOk, OnErr};
+ghost use Rattle.std.specs.Prelude.{◌≡◌, ℕ, ◌∷◌, [], ◌++◌, ◌-◌, ◌≤◌, None, Some, map, length};
+ghost use Rattle.std.specs.Prelude.{replicate, slice_set, OnOk, OnErr};
 ghost use Rattle.std.specs.Arc.{arc_value};
 ghost use Rattle.sat_base.specs.Lit.{greatest_of};
 ghost use Rattle.trace_core.specs.Known.{Known, item_at};
 ghost use Rattle.trace_core.specs.Trace.{known_of};
 ghost use Rattle.session.specs.Solver.{packet_at};
 ghost use Rattle.session.specs.Searching.{IsSearching, packets_of, solver_of};
-ghost use Rattle.session.specs.Sharing.{IsTakable, HasTaken, IsHeld, Knows, HasPlacesOnly, HoldsLast};
+ghost use Rattle.session.specs.Sharing.{IsTakable, HasTaken, IsHeld, Knows, HasPlacesOnly};
+ghost use Rattle.session.specs.Sharing.{HoldsLast};
 
 use crate::search::Search;
 use sat_base::Ref;
@@ -15,8 +17,8 @@ use std::alloc::AllocError;
 use std::sync::Arc;
 use trace_core::Packet;
 
-/// Takes in the last clause of the packet of this place, and knows the place from now on. After want of memory
-/// the solver is as before.
+/// Takes in the last clause of the packet of this place, and knows the place from now on. After
+/// want of memory the solver is as before.
 pub(crate) fn take_in(
     search: &mut Search,
     place: u32,
@@ -29,7 +31,8 @@ pub(crate) fn take_in(
     requires takable { (one : Known) × IsTakable (solver_of search.old) (arc_value packet.now) one }
     ensures kept { IsSearching search.new }
     ensures zero { search.new.trail.depth ≡ 0 }
-    ensures ok { OnOk result ((one : Known) × HasTaken (solver_of search.old) (solver_of search.new) place (arc_value packet.now) one) }
+    ensures ok { OnOk result ((one : Known) × HasTaken (solver_of search.old)
+        (solver_of search.new) place (arc_value packet.now) one) }
     ensures err { OnErr result (solver_of search.new ≡ solver_of search.old) }
 {
     let copy = packet.clone()?;
@@ -46,8 +49,8 @@ pub(crate) fn take_in(
     }
 }
 
-/// Knows the place from now on, whose packet's last clause is held already. After want of memory the solver is
-/// as before.
+/// Knows the place from now on, whose packet's last clause is held already. After want of memory
+/// the solver is as before.
 pub(crate) fn know(search: &mut Search, place: u32, packet: &Arc<Packet>) -> Result<(), AllocError>
     requires kept { IsSearching search.old }
     requires place { 1 ≤ place }
@@ -55,7 +58,8 @@ pub(crate) fn know(search: &mut Search, place: u32, packet: &Arc<Packet>) -> Res
     requires held { IsHeld (solver_of search.old) (arc_value packet.now) }
     ensures kept { IsSearching search.new }
     ensures depth { search.new.trail.depth ≡ search.old.trail.depth }
-    ensures ok { OnOk result (Knows (solver_of search.old) (solver_of search.new) place (arc_value packet.now)) }
+    ensures ok { OnOk result (Knows (solver_of search.old) (solver_of search.new) place
+        (arc_value packet.now)) }
     ensures err { OnErr result (solver_of search.new ≡ solver_of search.old) }
 {
     let copy = packet.clone()?;
@@ -74,8 +78,12 @@ pub(crate) fn know(search: &mut Search, place: u32, packet: &Arc<Packet>) -> Res
 
 // Makes room for the place, and holds the packet's last clause under its name.
 fn hold_last(search: &mut Search, place: u32, packet: &Packet) -> Result<(), AllocError>
-    requires within { (one : Known) → item_at (map known_of packet.now) (length packet.now) ≡ Some one → greatest_of one.clause ≤ search.old.store.vars }
-    ensures parts { search.new ≡ record search.old { store = search.new.store; packets = search.new.packets } }
+    requires within { (one : Known) → item_at (map known_of packet.now) (length packet.now)
+        ≡ Some one → greatest_of one.clause ≤ search.old.store.vars }
+    ensures parts { search.new ≡ record search.old {
+      store = search.new.store;
+      packets = search.new.packets;
+    } }
     ensures places { HasPlacesOnly search.old search.new }
     ensures reached { OnOk result (place ≤ length search.new.packets.items) }
     ensures held { OnOk result (HoldsLast search.old search.new place packet.now) }

@@ -41,7 +41,10 @@ fn start(
     clauses: &[Clause],
     cube: &Cube,
 ) -> Result<Session, AllocError>
-    ensures { IfOk result (λ session. session ≡ record { solver = loaded no_inputs clauses.now; names = [] }) }
+    ensures { IfOk result (λ session. session ≡ record {
+      solver = loaded no_inputs clauses.now;
+      names = [];
+    }) }
 {
     assert!(rt; clauses.len() <= 16_777_216);
     let mut session = Session::new(alloc, 0);
@@ -111,7 +114,8 @@ fn forcing(alloc: Global, rt: &impl Abort) -> Result<Vec<Clause>, AllocError>
 
 // The packet of the clause 2, which the inputs 1 and -1 2 prove.
 fn packet_of_2(alloc: Global, rt: &impl Abort) -> Result<Arc<Packet>, AllocError>
-    ensures { IfOk result (λ packet. arc_value packet ≡ record { clause = 4 ∷ []; hints = Input 1 ∷ Input 2 ∷ []; tag = 1 } ∷ []) }
+    ensures { IfOk result (λ packet. arc_value packet
+        ≡ record { clause = 4 ∷ []; hints = Input 1 ∷ Input 2 ∷ []; tag = 1 } ∷ []) }
 {
     let step = Step {
         clause: Clause::of_ascending(vec![in alloc; lit(rt, 2)]?),
@@ -138,7 +142,8 @@ fn a_clause_is_taken_in_before_any_round(rt: HostRuntime) -> Result<(), Fail> {
     Ok(())
 }
 
-// Three pigeons in two holes: variable 2p - 1 says that pigeon p sits in the first hole, 2p in the second.
+// Three pigeons in two holes: variable 2p - 1 says that pigeon p sits in the first hole, 2p in the
+// second.
 fn pigeons(alloc: Global, rt: &impl Abort) -> Result<Vec<Clause>, AllocError> {
     let rows = [
         [1, 2],
@@ -205,8 +210,10 @@ fn pigeons_are_refuted_after_a_pause(rt: HostRuntime) -> Result<(), Fail> {
 
 // The number of the first learnt step.
 fn first_learnt(rt: &impl Abort, session: &Session) -> u64
-    ensures own { (one : Known) × IsStep session.now.solver.steps result one × (IsTautology one.clause → ⊥) }
-    ensures held { (one : Known) × IsStep session.now.solver.steps result one × Contains session.now.solver.held one }
+    ensures own { (one : Known) × IsStep session.now.solver.steps result one
+        × (IsTautology one.clause → ⊥) }
+    ensures held { (one : Known) × IsStep session.now.solver.steps result one
+        × Contains session.now.solver.held one }
     ensures sound { IsSound session.now.solver }
 {
     let learnt = session.learnt();
@@ -222,8 +229,8 @@ fn first_learnt(rt: &impl Abort, session: &Session) -> u64
     number
 }
 
-// Publishes the first learnt step under a place that isn't known, and answers its packet, which a session over the same
-// inputs may take in.
+// Publishes the first learnt step under a place that isn't known, and answers its packet, which a
+// session over the same inputs may take in.
 fn share_first(
     alloc: Global,
     rt: &impl Abort,
@@ -231,7 +238,8 @@ fn share_first(
     place: u32,
 ) -> Result<Arc<Packet>, AllocError>
     requires place { 1 ≤ place }
-    ensures takable { IfOk result (λ packet. (one : Known) × IsTakable session.old.solver (arc_value packet) one) }
+    ensures takable { IfOk result (λ packet. (one : Known)
+        × IsTakable session.old.solver (arc_value packet) one) }
 {
     assert!(rt; !session.knows(place));
     let step = first_learnt(rt, session);
@@ -242,7 +250,8 @@ fn share_first(
 
 // Publishes at place 1 what a session over these inputs has learnt when it pauses after one clause.
 fn published(alloc: Global, rt: &impl Abort, clauses: &[Clause]) -> Result<Arc<Packet>, AllocError>
-    ensures { IfOk result (λ packet. (one : Known) × IsTakable (loaded no_inputs clauses.now) (arc_value packet) one) }
+    ensures { IfOk result (λ packet. (one : Known)
+        × IsTakable (loaded no_inputs clauses.now) (arc_value packet) one) }
 {
     let mut session = paused(alloc, rt, clauses)?;
     assert!(rt; session.learnt().len() == 1);

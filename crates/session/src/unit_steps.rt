@@ -1,6 +1,7 @@
 //! Steps that take the literals which are false at level 0 out of a clause.
 
-ghost use Rattle.std.specs.Prelude.{◌≡◌, ◌≢◌, ℕ, ◌<◌, ◌≤◌, List, [], ◌∷◌, ◌++◌, map, take, length, All, Contains, Option, None, Some, IfOk};
+ghost use Rattle.std.specs.Prelude.{◌≡◌, ◌≢◌, ℕ, ◌<◌, ◌≤◌, List, [], ◌∷◌, ◌++◌, map, take, length};
+ghost use Rattle.std.specs.Prelude.{All, Contains, Option, None, Some, IfOk};
 ghost use Rattle.sat_base.specs.Lit.{variable, opposite};
 ghost use Rattle.sat_base.specs.declared.origins.Ref.{Ref};
 ghost use Rattle.trace_core.specs.Known.{Known};
@@ -14,8 +15,8 @@ use sat_base::{Clause, Lit, Ref};
 use std::alloc::{AllocError, Global};
 use trace_core::{Hints, Step};
 
-/// The step that takes all literals but the kept one out of a clause of the arena. Each of these is false at
-/// level 0, and its opposite is a unit clause under the name of its variable.
+/// The step that takes all literals but the kept one out of a clause of the arena. Each of these is
+/// false at level 0, and its opposite is a unit clause under the name of its variable.
 pub(crate) fn unit_step(
     alloc: Global,
     arena: &Arena,
@@ -27,11 +28,15 @@ pub(crate) fn unit_step(
     requires known { id < length arena.now }
     requires units { All (λ lit. variable lit ≤ length units.now) (clause_at arena.now id).lits }
     requires tags { All (λ lit. variable lit ≤ length tags.now) (clause_at arena.now id).lits }
-    requires proper { (lit : ℕ) → Contains (clause_at arena.now id).lits lit → Contains (clause_at arena.now id).lits (opposite lit) → ⊥ }
+    requires proper { (lit : ℕ) → Contains (clause_at arena.now id).lits lit
+        → Contains (clause_at arena.now id).lits (opposite lit) → ⊥ }
     requires kept { (lit : ℕ) → kept ≡ Some lit → Contains (clause_at arena.now id).lits lit }
     ensures clause { IfOk result (λ step. step.clause ≡ only_kept kept) }
-    ensures derived { IfOk result (λ step. (table : Ref → Option Known) → IsNameOf table (clause_at arena.now id).origin (clause_at arena.now id).lits (clause_at arena.now id).tag
-        → KnowsOpposites table units.now tags.now kept (clause_at arena.now id).lits → IsOkStep table step) }
+    ensures derived { IfOk result (λ step. (table : Ref → Option Known)
+        → IsNameOf table (clause_at arena.now id).origin (clause_at arena.now id).lits
+        (clause_at arena.now id).tag
+        → KnowsOpposites table units.now tags.now kept (clause_at arena.now id).lits
+        → IsOkStep table step) }
 {
     let mut hints = Vec::new(alloc);
     let mut tag: u32 = 0;

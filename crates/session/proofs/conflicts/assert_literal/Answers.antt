@@ -12,4 +12,5 @@ returns-clause-kept c =
 pub returns-clause-decisions : goal.returns-clause-decisions
 returns-clause-decisions c = λ cube for_cube.
     let s = c.args.search.now in
-    subst (IsForCube cube) (sym c.assign.ensures.entries) (cube_forced (lits_of_each s.store.clauses) cube s.trail.entries _ c.requires.forced for_cube)
+    subst (IsForCube cube) (sym c.assign.ensures.entries)
+    (cube_forced (lits_of_each s.store.clauses) cube s.trail.entries _ c.requires.forced for_cube)

@@ -11,4 +11,5 @@ returns-clause-kept c =
 pub returns-clause-decisions : goal.returns-clause-decisions
 returns-clause-decisions c = λ cube for_cube.
     let s = c.args.search.now in
-    subst (IsForCube cube) (sym c.back_to.ensures.entries) (cube_back cube s.trail.entries c.args.level c.requires.kept.trail.ascending for_cube)
+    subst (IsForCube cube) (sym c.back_to.ensures.entries)
+    (cube_back cube s.trail.entries c.args.level c.requires.kept.trail.ascending for_cube)

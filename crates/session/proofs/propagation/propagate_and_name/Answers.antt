@@ -1,6 +1,6 @@
-use Rattle.std.proofs.Common.{◌≡◌, ℕ, List, [], ap, refl, sym, subst}
+use Rattle.std.proofs.Common.{◌≡◌, ℕ, List, [], ap, sym, subst}
 use Rattle.clause_arena.specs.Arena.{lits_of_each}
-use Rattle.trail_core.specs.Trail.{Entry, TrailView}
+use Rattle.trail_core.specs.Trail.{TrailView}
 use Rattle.propagate.specs.Store.{StoreView, HasSameClauses}
 use Rattle.trail_core.specs.UnderTrail.{HasGrown}
 use Rattle.session.specs.declared.search.Search.{Search}
@@ -14,18 +14,34 @@ use Rattle.session.proofs.Repeats.{learns_then}
 use Rattle.session.proofs.propagation.propagate_and_name.Goals as goal
 
 -- propagation and then names
-named_then : (old new : Search) (store : StoreView) (trail : TrailView) → IsSearching old → HasSameClauses old.store.clauses store.clauses
-    → new ≡ record (record old { store = store; trail = trail }) { units = new.units; tags = new.tags; named = new.named; steps = new.steps } → HasUnitsMore old.steps.items new.steps.items
+named_then : (old new : Search) (store : StoreView) (trail : TrailView) → IsSearching old
+    → HasSameClauses old.store.clauses store.clauses
+    → new ≡ record (record old { store = store; trail = trail }) {
+      units = new.units;
+      tags = new.tags;
+      named = new.named;
+      steps = new.steps;
+    }
+    → HasUnitsMore old.steps.items new.steps.items
     → Learns (solver_of old) (solver_of new) [] []
 named_then old new store trail kept same parts more =
-    learns_then (solver_of old) (solver_of (record old { store = store; trail = trail })) (solver_of new) [] [] []
+    learns_then (solver_of old) (solver_of (record old { store = store; trail = trail }))
+    (solver_of new) [] [] []
     (learns_propagated old store trail kept same)
     (learns_named (record old { store = store; trail = trail }) new parts more)
 
-grown_then : (clauses : List (List ℕ)) (depth : ℕ) (old new : Search) (store : StoreView) (trail : TrailView) → HasGrown clauses depth old.trail.entries trail.entries
-    → new ≡ record (record old { store = store; trail = trail }) { units = new.units; tags = new.tags; named = new.named; steps = new.steps } → AddsNoDecision old.trail.entries new.trail.entries
+grown_then : (clauses : List (List ℕ)) (depth : ℕ) (old new : Search) (store : StoreView)
+    (trail : TrailView) → HasGrown clauses depth old.trail.entries trail.entries
+    → new ≡ record (record old { store = store; trail = trail }) {
+      units = new.units;
+      tags = new.tags;
+      named = new.named;
+      steps = new.steps;
+    }
+    → AddsNoDecision old.trail.entries new.trail.entries
 grown_then clauses depth old new store trail grown parts cube for_cube =
-    subst (λ (x : TrailView). IsForCube cube x.entries) (sym (ap (λ (x : Search). x.trail) parts)) (cube_grown clauses cube old.trail.entries trail.entries depth grown for_cube)
+    subst (λ (x : TrailView). IsForCube cube x.entries) (sym (ap (λ (x : Search). x.trail) parts))
+    (cube_grown clauses cube old.trail.entries trail.entries depth grown for_cube)
 
 pub name_zero-requires : goal.name_zero-requires
 name_zero-requires c =

@@ -1,16 +1,19 @@
-use Rattle.std.proofs.Common.{◌≤◌, ◌∷◌, [], ap, arith}
+use Rattle.std.proofs.Common.{◌≤◌, ap, arith}
 use Rattle.sat_base.specs.Lit.{variable}
 use Rattle.sat_base.proofs.Members.{All-from_members}
 use Rattle.session.specs.Searching.{solver_of}
 use Rattle.session.proofs.UpTo.{below_greatest}
 use Rattle.session.proofs.Modelled.{model_of}
-use Rattle.session.proofs.Keeping.{keeps_itself, keeps_stepped, learns_decided, learns_keeps, model_concludes, refuted_concludes, round_decided, round_moved, round_stepped, search_moved}
+use Rattle.session.proofs.Keeping.{learns_decided}
+use Rattle.session.proofs.Keeping.{model_concludes, refuted_concludes, round_decided, round_moved}
 use Rattle.session.specs.declared.search.Search.{Search}
 use Rattle.session.proofs.rounds.decide_or_answer.Goals as goal
 
 pub next_move-requires-clause-within : goal.next_move-requires-clause-within
 next_move-requires-clause-within c =
-    All-from_members (λ lit. variable lit ≤ c.args.vars) c.args.cube.now (λ lit has. (let low = below_greatest c.args.cube.now lit has in omega (arith, low, c.requires.round.variables.are)))
+    All-from_members (λ lit. variable lit ≤ c.args.vars) c.args.cube.now
+    (λ lit has. (let low = below_greatest c.args.cube.now lit has in omega
+    (arith, low, c.requires.round.variables.are)))
 
 pub returns-in-Decide-clause-round : goal.returns-in-Decide-clause-round
 returns-in-Decide-clause-round c =
@@ -29,8 +32,10 @@ returns-in-Decide-clause-learns c =
 pub returns-in_ok-part-in-Blame-clause-ends : goal.returns-in_ok-part-in-Blame-clause-ends
 returns-in_ok-part-in-Blame-clause-ends c =
     let e = c.in_ok-part-in-Blame.ensures in
-    refuted_concludes (solver_of c.args.search.now) (solver_of c.refute_literal.new.search) c.args.cube.now c.in_ok-part-in-Blame.part c.in_ok-part-in-Blame.number
-    (ap solver_of e.parts) e.last (e.answer c.args.cube.now c.requires.round.for_cube c.in-Blame.ensures.next.stands)
+    refuted_concludes (solver_of c.args.search.now)
+    (solver_of c.refute_literal.new.search) c.args.cube.now c.in_ok-part-in-Blame.part c.in_ok-part-in-Blame.number
+    (ap solver_of e.parts) e.last
+    (e.answer c.args.cube.now c.requires.round.for_cube c.in-Blame.ensures.next.stands)
 
 pub returns-in_ok-model-in-Stop-clause-ends : goal.returns-in_ok-model-in-Stop-clause-ends
 returns-in_ok-model-in-Stop-clause-ends c =

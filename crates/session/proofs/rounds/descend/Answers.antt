@@ -18,6 +18,8 @@ loop-end-preserved c =
     let mid = solver_of c.loop-end.search in
     let new = solver_of c.propagate_and_decide.new.search in (
       c.propagate_and_decide.ensures.round,
-      learns_then (solver_of c.args.search.now) mid new [] [] [] c.loop-end.invariant.1 (subst (λ end. IfNone end (Learns mid new [] [])) c.in-None.is c.in_ok-end.ensures.learns),
+      learns_then (solver_of c.args.search.now) mid new [] [] [] c.loop-end.invariant.1
+          (subst (λ end. IfNone end
+          (Learns mid new [] [])) c.in-None.is c.in_ok-end.ensures.learns),
       c.propagate_and_decide.ensures.vars ∙ c.loop-end.invariant.2,
     )

@@ -13,7 +13,9 @@ returns-in-Conflict-clause-ends c =
     let mid = solver_of c.descend.new.search in
     let new = solver_of c.resolve_conflict.new.search in
     let down = subst (Descends c.args.search.now c.descend.new.search c.args.cube.now) c.in-Conflict.is c.in_ok-round.ensures.descends in
-    IfOk-weaker c.resolve_conflict.result (λ end. IfSome end (λ round. (any : List ℕ) → Concludes mid new any round)) (λ end. IfSome end (Concludes old new c.args.cube.now))
+    IfOk-weaker c.resolve_conflict.result (λ end. IfSome end
+    (λ round. (any : List ℕ) → Concludes mid new any round))
+    (λ end. IfSome end (Concludes old new c.args.cube.now))
     (λ end some. some_concludes_after old mid new c.args.cube.now end down.0 some) c.resolve_conflict.ensures.ends
 
 pub returns-in-Conflict-clause-learns : goal.returns-in-Conflict-clause-learns
@@ -22,5 +24,6 @@ returns-in-Conflict-clause-learns c =
     let mid = solver_of c.descend.new.search in
     let new = solver_of c.resolve_conflict.new.search in
     let down = subst (Descends c.args.search.now c.descend.new.search c.args.cube.now) c.in-Conflict.is c.in_ok-round.ensures.descends in
-    IfOk-weaker c.resolve_conflict.result (λ end. IfNone end (LearnsOne mid new)) (λ end. IfNone end (LearnsOne old new))
+    IfOk-weaker c.resolve_conflict.result (λ end. IfNone end (LearnsOne mid new))
+    (λ end. IfNone end (LearnsOne old new))
     (λ end none. none_learns_one_after old mid new end down.0 none) c.resolve_conflict.ensures.learns

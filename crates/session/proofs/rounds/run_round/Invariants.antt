@@ -7,7 +7,9 @@ use Rattle.session.proofs.rounds.run_round.Given as goal
 
 abbrev pub invariant-loop-count : goal.invariant-loop-count
 invariant-loop-count l =
-    IsInRound l.search l.cube l.vars × ((more : List Known) × Learns (solver_of l.fn.search) (solver_of l.search) more [] × (length more ≡ l.count) × (l.count ≤ l.limit))
+    IsInRound l.search l.cube l.vars × ((more : List Known)
+    × Learns (solver_of l.fn.search) (solver_of l.search) more [] × (length more ≡ l.count)
+    × (l.count ≤ l.limit))
 
 abbrev pub decreases-loop-count : goal.decreases-loop-count
 decreases-loop-count l = l.limit - l.count

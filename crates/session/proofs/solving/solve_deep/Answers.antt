@@ -21,7 +21,8 @@ run_round-requires c =
         kept = e.kept;
         for_cube = cube_at_zero mid.trail c.args.cube.now e.kept.trail (e.depth ∙ c.requires.zero);
         variables = record {
-          are = c.max-vars.ensures ∙ ap (λ n. max n c.greatest_variable.result) (sym e.numbers.0) ∙ ap (max mid.greatest) of_cube;
+          are = c.max-vars.ensures ∙ ap (λ n. max n c.greatest_variable.result) (sym e.numbers.0)
+              ∙ ap (max mid.greatest) of_cube;
           reserved = e.ok;
           few = omega (arith, c.max-vars.ensures, low, low_cube, of_cube);
           set = c.lits-lits.ensures.set;
@@ -30,8 +31,10 @@ run_round-requires c =
     }
 
 pub returns-clause-keeps : goal.returns-clause-keeps
-returns-clause-keeps c = subst (λ (solver : Solver). Keeps solver (solver_of c.run_round.new.search)) c.in_ok-reserve.ensures.solver c.run_round.ensures.keeps
+returns-clause-keeps c = subst (λ (solver : Solver). Keeps solver
+    (solver_of c.run_round.new.search)) c.in_ok-reserve.ensures.solver c.run_round.ensures.keeps
 
 pub returns-clause-round : goal.returns-clause-round
 returns-clause-round c =
-    subst (λ (solver : Solver). IfOk c.run_round.result (Solves solver (solver_of c.run_round.new.search) c.args.cube.now c.args.limit)) c.in_ok-reserve.ensures.solver c.run_round.ensures.round
+    subst (λ (solver : Solver). IfOk c.run_round.result
+    (Solves solver (solver_of c.run_round.new.search) c.args.cube.now c.args.limit)) c.in_ok-reserve.ensures.solver c.run_round.ensures.round

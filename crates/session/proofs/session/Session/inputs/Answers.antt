@@ -1,4 +1,4 @@
-use Rattle.std.proofs.Common.{◌∙◌, [], length, ap}
+use Rattle.std.proofs.Common.{◌∙◌, length, ap}
 use Rattle.session.specs.Session.{SessionView}
 use Rattle.session.proofs.session.Session.inputs.Goals as goal
 

@@ -1,4 +1,4 @@
-use Rattle.std.proofs.Common.{[], length, ap, arith}
+use Rattle.std.proofs.Common.{length, ap, arith}
 use Rattle.session.specs.Session.{SessionView}
 use Rattle.session.proofs.session.Session.load.Goals as goal
 

@@ -1,4 +1,4 @@
-use Rattle.std.proofs.Common.{◌≡◌, [], List, Option, map, sym, subst}
+use Rattle.std.proofs.Common.{◌≡◌, List, Option, map, sym, subst}
 use Rattle.std.specs.Prelude.{IfOk}
 use Rattle.sat_base.specs.Lit.{IsTautology}
 use Rattle.sat_base.specs.declared.origins.Ref.{Ref}
