@@ -46,43 +46,85 @@ reached_more level_of places place but highest highest' has differs (inl same) b
 reached_more level_of places place but highest highest' has differs (inr here) before = inr (place, has, differs, sym here)
 
 -- one more place above level 0 brings its variable
-pub variable_more : (entries : List Entry) (met : List ℕ) (i : ℕ) (vars vars' : List ℕ) → i < length met → 0 < level_at entries (get_or met i 0) → vars' ≡ vars ++ variable (lit_at entries (get_or met i 0)) ∷ []
-    → ((var : ℕ) → Contains vars var ↔ IsVariableAbove entries (take i met) var) → (var : ℕ) → Contains vars' var ↔ IsVariableAbove entries (take (i + 1) met) var
-variable_more entries met i vars vars' lt above pushed before var = (
-  λ has. to (Contains-push_cases vars (variable (lit_at entries (get_or met i 0))) var (subst (λ (xs : List ℕ). Contains xs var) pushed has)),
-  λ v. subst (λ (xs : List ℕ). Contains xs var) (sym pushed) (back v (take_grows met i lt v.place v.stands)),
+pub variable_more : (entries : List Entry) (analyzed : List ℕ) (i : ℕ) (vars vars' : List ℕ)
+    → i < length analyzed → 0 < level_at entries (get_or analyzed i 0)
+    → vars' ≡ vars ++ variable (lit_at entries (get_or analyzed i 0)) ∷ []
+    → ((var : ℕ) → Contains vars var ↔ IsVariableAbove entries (take i analyzed) var) → (var : ℕ)
+    → Contains vars' var ↔ IsVariableAbove entries (take (i + 1) analyzed) var
+variable_more entries analyzed i vars vars' lt above pushed before var = (
+  λ has. to (Contains-push_cases vars (variable (lit_at entries (get_or analyzed i 0))) var
+      (subst (λ (xs : List ℕ). Contains xs var) pushed has)),
+  λ v. subst (λ (xs : List ℕ). Contains xs var) (sym pushed)
+      (back v (take_grows analyzed i lt v.place v.stands)),
 )
   where
-    grows : take (i + 1) met ≡ take i met ++ get_or met i 0 ∷ []
-    grows = take_more met i 0 lt
+    grows : take (i + 1) analyzed ≡ take i analyzed ++ get_or analyzed i 0 ∷ []
+    grows = take_more analyzed i 0 lt
 
-    to : Contains vars var ⊎ (variable (lit_at entries (get_or met i 0)) ≡ var) → IsVariableAbove entries (take (i + 1) met) var
+    to : Contains vars var ⊎ (variable (lit_at entries (get_or analyzed i 0)) ≡ var)
+        → IsVariableAbove entries (take (i + 1) analyzed) var
     to (inl old) =
         let v = (before var).0 old in
-        record { place = v.place; stands = subst (λ (xs : List ℕ). Contains xs v.place) (sym grows) (Contains-append_left (take i met) (get_or met i 0 ∷ []) v.place v.stands); is = v.is; above = v.above }
-    to (inr same) = record { place = get_or met i 0; stands = subst (λ (xs : List ℕ). Contains xs (get_or met i 0)) (sym grows) (Contains-push (take i met) (get_or met i 0)); is = same; above = above }
+        record {
+          place = v.place;
+          stands =
+              subst (λ (xs : List ℕ). Contains xs v.place) (sym grows)
+              (Contains-append_left (take i analyzed) (get_or analyzed i 0 ∷ []) v.place v.stands);
+          is = v.is;
+          above = v.above;
+        }
+    to (inr same) = record {
+      place = get_or analyzed i 0;
+      stands =
+          subst (λ (xs : List ℕ). Contains xs (get_or analyzed i 0)) (sym grows)
+          (Contains-push (take i analyzed) (get_or analyzed i 0));
+      is = same;
+      above = above;
+    }
 
-    back : (v : IsVariableAbove entries (take (i + 1) met) var) → Contains (take i met) v.place ⊎ (get_or met i 0 ≡ v.place) → Contains (vars ++ variable (lit_at entries (get_or met i 0)) ∷ []) var
-    back v (inl old) = Contains-append_left vars (variable (lit_at entries (get_or met i 0)) ∷ []) var ((before var).1 (record { place = v.place; stands = old; is = v.is; above = v.above }))
-    back v (inr same) = subst (Contains (vars ++ variable (lit_at entries (get_or met i 0)) ∷ [])) (ap (λ n. variable (lit_at entries n)) same ∙ v.is) (Contains-push vars (variable (lit_at entries (get_or met i 0))))
+    back : (v : IsVariableAbove entries (take (i + 1) analyzed) var)
+        → Contains (take i analyzed) v.place ⊎ (get_or analyzed i 0 ≡ v.place)
+        → Contains (vars ++ variable (lit_at entries (get_or analyzed i 0)) ∷ []) var
+    back v (inl old) =
+        Contains-append_left vars (variable (lit_at entries (get_or analyzed i 0)) ∷ []) var
+        ((before var).1 (record { place = v.place; stands = old; is = v.is; above = v.above }))
+    back v (inr same) =
+        subst (Contains (vars ++ variable (lit_at entries (get_or analyzed i 0)) ∷ []))
+        (ap (λ n. variable (lit_at entries n)) same ∙ v.is)
+        (Contains-push vars (variable (lit_at entries (get_or analyzed i 0))))
 
 -- a place of level 0 brings none
-pub variable_skip : (entries : List Entry) (met : List ℕ) (i : ℕ) (vars : List ℕ) → i < length met → level_at entries (get_or met i 0) ≤ 0
-    → ((var : ℕ) → Contains vars var ↔ IsVariableAbove entries (take i met) var) → (var : ℕ) → Contains vars var ↔ IsVariableAbove entries (take (i + 1) met) var
-variable_skip entries met i vars lt low before var = (
+pub variable_skip : (entries : List Entry) (analyzed : List ℕ) (i : ℕ) (vars : List ℕ)
+    → i < length analyzed → level_at entries (get_or analyzed i 0) ≤ 0
+    → ((var : ℕ) → Contains vars var ↔ IsVariableAbove entries (take i analyzed) var) → (var : ℕ)
+    → Contains vars var ↔ IsVariableAbove entries (take (i + 1) analyzed) var
+variable_skip entries analyzed i vars lt low before var = (
   λ has.
       let v = (before var).0 has in
-      record { place = v.place; stands = subst (λ (xs : List ℕ). Contains xs v.place) (sym (take_more met i 0 lt)) (Contains-append_left (take i met) (get_or met i 0 ∷ []) v.place v.stands); is = v.is; above = v.above },
-  λ v. back v (take_grows met i lt v.place v.stands),
+      record {
+        place = v.place;
+        stands =
+            subst (λ (xs : List ℕ). Contains xs v.place) (sym (take_more analyzed i 0 lt))
+            (Contains-append_left (take i analyzed) (get_or analyzed i 0 ∷ []) v.place v.stands);
+        is =
+            v.is;
+        above = v.above;
+      },
+  λ v. back v (take_grows analyzed i lt v.place v.stands),
 )
   where
-    back : (v : IsVariableAbove entries (take (i + 1) met) var) → Contains (take i met) v.place ⊎ (get_or met i 0 ≡ v.place) → Contains vars var
+    back : (v : IsVariableAbove entries (take (i + 1) analyzed) var)
+        → Contains (take i analyzed) v.place ⊎ (get_or analyzed i 0 ≡ v.place) → Contains vars var
     back v (inl old) = (before var).1 (record { place = v.place; stands = old; is = v.is; above = v.above })
     back v (inr same) = let low' : level_at entries v.place ≤ 0 = subst (λ n. level_at entries n ≤ 0) same low in absurd (omega (arith, v.above))
 
-pub variable_whole : (entries : List Entry) (met : List ℕ) (i : ℕ) (vars vars' : List ℕ) → length met ≤ i → ((var : ℕ) → Contains vars' var ↔ Contains vars var) → ((var : ℕ) → Contains vars var ↔ IsVariableAbove entries (take i met) var)
-    → (var : ℕ) → Contains vars' var ↔ IsVariableAbove entries met var
-variable_whole entries met i vars vars' le same all var = subst (λ (xs : List ℕ). Contains vars' var ↔ IsVariableAbove entries xs var) (take_all i met le) (
-  λ has. (all var).0 ((same var).0 has),
-  λ v. (same var).1 ((all var).1 v),
-)
+pub variable_whole : (entries : List Entry) (analyzed : List ℕ) (i : ℕ) (vars vars' : List ℕ)
+    → length analyzed ≤ i → ((var : ℕ) → Contains vars' var ↔ Contains vars var)
+    → ((var : ℕ) → Contains vars var ↔ IsVariableAbove entries (take i analyzed) var)
+    → (var : ℕ) → Contains vars' var ↔ IsVariableAbove entries analyzed var
+variable_whole entries analyzed i vars vars' le same all var =
+    subst (λ (xs : List ℕ). Contains vars' var ↔ IsVariableAbove entries xs var)
+    (take_all i analyzed le) (
+      λ has. (all var).0 ((same var).0 has),
+      λ v. (same var).1 ((all var).1 v),
+    )

@@ -13,7 +13,7 @@ use Rattle.trace_core.specs.declared.derivation.Step.{Step}
 use Rattle.trail_core.specs.Trail.{Entry}
 use Rattle.analyze.specs.Graph.{IsDecision}
 use Rattle.analyze.specs.Refuted.{IsPart, IsNegationOf, IsRefutedBy, IsExcludedOf}
-use Rattle.analyze.proofs.Marks.{nothing_in}
+use Rattle.trace_core.proofs.Items.{nothing_in}
 
 -- the two literals of a variable
 pub both_members : (lit : ℕ) (pair : List ℕ) → pair ≡ (2 * variable lit) ∷ (2 * variable lit + 1) ∷ [] → (other : ℕ) → Contains pair other ↔ ((other ≡ lit) ⊎ (other ≡ opposite lit))

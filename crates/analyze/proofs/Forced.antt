@@ -7,7 +7,7 @@ use Rattle.std.proofs.lemmas.List.Elements.{All-contains, Contains-get_or}
 use Rattle.sat_base.specs.Lit.{variable, opposite}
 use Rattle.sat_base.proofs.Opposite.{variable-opposite}
 use Rattle.sat_base.proofs.Members.{All-from_members, Contains-here, Contains-there, Contains-cases, Contains-map, Contains-from_map, Contains-filter}
-use Rattle.analyze.proofs.Members.{Contains-from_filter}
+use Rattle.trace_core.proofs.Items.{Contains-from_filter}
 use Rattle.clause_arena.specs.Arena.{ArenaClause, no_clause, clause_at, lits_of_each}
 use Rattle.trail_core.specs.Trail.{Entry, TrailView, StandsAt, IsTrail, no_entry, entry_at, lits_of, up_to}
 use Rattle.trail_core.specs.UnderTrail.{IsFalseLit, IsUnassigned, IsFalseClause, IsOpenClause, IsComplete, IsForced, IsFounded, lits_at}

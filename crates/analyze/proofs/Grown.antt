@@ -1,4 +1,4 @@
--- How the list of places met grows.
+-- How the list of places seen grows.
 use Rattle.std.proofs.Common.{◌≡◌, ◌∙◌, ℕ, ◌+◌, ◌<◌, ◌≤◌, List, [], ◌∷◌, ◌++◌, length, get_or, take, Bool, true, false, cond, ap, subst, sym, inl, inr, arith}
 use Rattle.std.specs.Prelude.{Contains, ◌⊎◌, ◌==◌, ◌&&◌, nat_lt}
 use Rattle.std.proofs.lemmas.List.{length_push, take-append-le, take_all, take-take, take_more, get_or-take, length-take}
@@ -6,7 +6,7 @@ use Rattle.std.proofs.lemmas.List.Elements.{Contains-push_cases, Contains-get_or
 use Rattle.trail_core.specs.Trail.{Entry, StandsAt}
 use Rattle.sat_base.specs.Lit.{variable}
 use Rattle.analyze.specs.Graph.{IsPlaceOf, level_at}
-use Rattle.analyze.specs.Meeting.{HasGrown, HasMet, open_at, open_below}
+use Rattle.analyze.specs.Seen.{HasGrown, AreAllSeen, open_at, open_below}
 
 pub open_push : (entries : List Entry) (level bound : ℕ) (places : List ℕ) (place : ℕ) → open_below entries level bound (places ++ place ∷ []) ≡ open_below entries level bound places + open_at entries level bound place
 open_push entries level bound [] place = omega arith
@@ -22,24 +22,36 @@ open_bound entries level bound place = by_tests (nat_lt place bound) (level_at e
     by_tests false true = omega arith
     by_tests false false = omega arith
 
-pub grown_none : (entries : List Entry) (level : ℕ) (Kind : ℕ → Type 0) (met : List ℕ) → HasGrown entries level Kind met met 0
-grown_none entries level Kind met = record {
+pub grown_none : (entries : List Entry) (level : ℕ) (Kind : ℕ → Type 0) (analyzed : List ℕ)
+    → HasGrown entries level Kind analyzed analyzed 0
+grown_none entries level Kind analyzed = record {
   longer = omega arith;
-  front = take_all (length met) met (omega arith);
+  front = take_all (length analyzed) analyzed (omega arith);
   added = λ place has. inl has;
   open_count = λ bound. omega arith;
 }
 
-pub grown_push : (entries : List Entry) (level : ℕ) (Kind : ℕ → Type 0) (met met' : List ℕ) (place count : ℕ) → met' ≡ met ++ place ∷ [] → Kind place
-    → cond (level_at entries place == level) 1 0 ≡ count → count ≤ 1 → HasGrown entries level Kind met met' count
-grown_push entries level Kind met met' place count pushed kind counted one = subst (λ (new : List ℕ). HasGrown entries level Kind met new count) (sym pushed) (record {
-  longer = omega (arith, length_push met place);
-  front = take-append-le (length met) met (place ∷ []) (omega arith) ∙ take_all (length met) met (omega arith);
-  added = λ other has. flip other (Contains-push_cases met place other has);
-  open_count = λ bound. omega (arith, open_push entries level bound met place, open_bound entries level bound place);
-})
+pub grown_push : (entries : List Entry) (level : ℕ) (Kind : ℕ → Type 0)
+    (analyzed analyzed' : List ℕ) (place count : ℕ) → analyzed' ≡ analyzed ++ place ∷ []
+    → Kind place
+    → cond (level_at entries place == level) 1 0 ≡ count → count ≤ 1
+    → HasGrown entries level Kind analyzed analyzed' count
+grown_push entries level Kind analyzed analyzed' place count pushed kind counted one =
+    subst (λ (new : List ℕ). HasGrown entries level Kind analyzed new count) (sym pushed) (record {
+      longer = omega (arith, length_push analyzed place);
+      front = take-append-le (length analyzed) analyzed (place ∷ []) (omega arith)
+          ∙ take_all (length analyzed) analyzed (omega arith);
+      added = λ other has. flip other (Contains-push_cases analyzed place other has);
+      open_count = λ bound. omega (
+        arith,
+        open_push entries level bound analyzed place,
+        open_bound entries level bound
+            place,
+      );
+    })
   where
-    flip : (other : ℕ) → Contains met other ⊎ (place ≡ other) → Contains met other ⊎ Kind other
+    flip : (other : ℕ) → Contains analyzed other ⊎ (place ≡ other)
+        → Contains analyzed other ⊎ Kind other
     flip other (inl has) = inl has
     flip other (inr same) = inr (subst Kind same kind)
 
@@ -68,13 +80,18 @@ grown_keeps entries level Kind old new count grown place has = from_take (subst 
     from_take : Contains (take (length old) new) place → Contains new place
     from_take (k, lt, is) = (k, omega (arith, lt, length-take (length old) new), sym (get_or-take (length old) new k place (omega (arith, lt, length-take (length old) new))) ∙ is)
 
-pub met_keeps : (entries : List Entry) (old new clause : List ℕ) → ((place : ℕ) → Contains old place → Contains new place) → HasMet entries old clause → HasMet entries new clause
-met_keeps entries old new clause keeps met lit stands place at = keeps place (met lit stands place at)
+pub met_keeps : (entries : List Entry) (old new clause : List ℕ)
+    → ((place : ℕ) → Contains old place → Contains new place) → AreAllSeen entries old clause
+    → AreAllSeen entries new clause
+met_keeps entries old new clause keeps analyzed lit stands place at =
+    keeps place (analyzed lit stands place at)
 
--- one more literal, whose variable is met where it is assigned
+-- one more literal, whose variable is seen where it is assigned
 pub met_more : (entries : List Entry) (clause : List ℕ) (i lit : ℕ) (old new : List ℕ) → i < length clause → lit ≡ get_or clause i lit
-    → ((place : ℕ) → Contains old place → Contains new place) → HasMet entries old (take i clause)
-    → ((place : ℕ) → StandsAt entries (variable lit) place → Contains new place) → HasMet entries new (take (i + 1) clause)
+    → ((place : ℕ) → Contains old place → Contains new place)
+    → AreAllSeen entries old (take i clause)
+    → ((place : ℕ) → StandsAt entries (variable lit) place → Contains new place)
+    → AreAllSeen entries new (take (i + 1) clause)
 met_more entries clause i lit old new lt is keeps before now other stands place at =
     old_or_new (Contains-push_cases (take i clause) lit other (subst (λ (xs : List ℕ). Contains xs other) grows stands))
   where
@@ -85,11 +102,14 @@ met_more entries clause i lit old new lt is keeps before now other stands place 
     old_or_new (inl has) = keeps place (before other has place at)
     old_or_new (inr same) = now place (subst (λ z. StandsAt entries (variable z) place) (sym same) at)
 
-pub met_whole : (entries : List Entry) (clause : List ℕ) (i : ℕ) (met : List ℕ) → length clause ≤ i → HasMet entries met (take i clause) → HasMet entries met clause
-met_whole entries clause i met le before = subst (HasMet entries met) (take_all i clause le) before
+pub met_whole : (entries : List Entry) (clause : List ℕ) (i : ℕ) (analyzed : List ℕ)
+    → length clause ≤ i → AreAllSeen entries analyzed (take i clause)
+    → AreAllSeen entries analyzed clause
+met_whole entries clause i analyzed le before =
+    subst (AreAllSeen entries analyzed) (take_all i clause le) before
 
-pub met_none : (entries : List Entry) (met : List ℕ) → HasMet entries met []
-met_none entries met lit (k, lt, is) place at = absurd (omega arith)
+pub met_none : (entries : List Entry) (analyzed : List ℕ) → AreAllSeen entries analyzed []
+met_none entries analyzed lit (k, lt, is) place at = absurd (omega arith)
 
 -- an assigned variable of the clause
 pub place_of : (entries : List Entry) (clause : List ℕ) (i lit place : ℕ) → i < length clause → lit ≡ get_or clause i lit → StandsAt entries (variable lit) place → IsPlaceOf entries clause place

@@ -14,6 +14,7 @@ use Rattle.trail_core.specs.Trail.{Entry, entry_at}
 use Rattle.analyze.specs.Graph.{lit_at, level_at}
 use Rattle.analyze.specs.Table.{IsNameOf, KnowsArena, KnowsUnits, unit_of, tag_of_unit}
 use Rattle.analyze.specs.Naming.{HasClause, reason_in, lits_for, name_for, tag_for}
+use Rattle.trace_core.proofs.TagLemmas.{greatest_push}
 
 -- what a name names
 pub named_is : (table : Ref → Option Known) (name : Ref) (lits : List ℕ) (tag : ℕ) → IsNameOf table name lits tag → IsSome (table name)
@@ -60,10 +61,6 @@ map_same f g (x ∷ xs) same =
     let first : f x ≡ g x = same x (Contains-here x xs) in
     let rest : map f xs ≡ map g xs = map_same f g xs (λ y has. same y (Contains-there x y xs has)) in
     cc
-
-greatest_push : (numbers : List ℕ) (n : ℕ) → greatest (numbers ++ n ∷ []) ≡ max (greatest numbers) n
-greatest_push [] n = grind arith
-greatest_push (m ∷ numbers) n = let h = greatest_push numbers n in grind arith
 
 -- the hinted clauses of places, and one more
 pub hinted_places : (table : Ref → Option Known) (name : ℕ → Ref) (places : List ℕ) → map (λ hint. clause_of (table hint)) (map name places) ≡ map (λ place. clause_of (table (name place))) places

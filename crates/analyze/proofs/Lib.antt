@@ -1,11 +1,10 @@
-pub mod Marks
+pub mod SeenPlaces
 pub mod Grown
 pub mod Named
-pub mod Members
 pub mod Forced
 pub mod Opened
-pub mod Walked
-pub mod Parts
+pub mod ToFirstUip
+pub mod Classified
 pub mod Sorts
 pub mod Runs
 pub mod Hinted

@@ -2,6 +2,7 @@
 use Rattle.std.proofs.Common.{◌≡◌, ◌∙◌, ℕ, ◌+◌, ◌<◌, ◌≤◌, List, [], ◌∷◌, ◌++◌, map, take, drop, length, get_or, max, ap, sym, arith}
 use Rattle.std.proofs.lemmas.List.{at_drop_more, at_drop_all, take_all, take_more, map_push}
 use Rattle.trace_core.specs.Trace.{greatest}
+use Rattle.trace_core.proofs.TagLemmas.{max_assoc}
 
 pub map_more : {Y : Type 0} (f : ℕ → Y) (places : List ℕ) (i place : ℕ) (before : List Y) → i < length places → place ≡ get_or places i place → before ≡ map f (take i places) → before ++ f place ∷ [] ≡ map f (take (i + 1) places)
 map_more f places i place before lt is so_far =
@@ -9,9 +10,6 @@ map_more f places i place before lt is so_far =
 
 pub map_whole : {Y : Type 0} (f : ℕ → Y) (places : List ℕ) (i : ℕ) → length places ≤ i → map f (take i places) ≡ map f places
 map_whole f places i le = ap (map f) (take_all i places le)
-
-max_assoc : (a b c : ℕ) → max (max a b) c ≡ max a (max b c)
-max_assoc a b c = grind arith
 
 pub tag_more : (f : ℕ → ℕ) (places : List ℕ) (i place tag : ℕ) → i < length places → place ≡ get_or places i place
     → max tag (greatest (map f (drop i places))) ≡ greatest (map f places) → max (max tag (f place)) (greatest (map f (drop (i + 1) places))) ≡ greatest (map f places)

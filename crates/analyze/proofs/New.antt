@@ -14,8 +14,14 @@ use Rattle.analyze.specs.Learnt.{IsNew}
 use Rattle.analyze.proofs.Forced.{some_or_all, false_below, unassigned_below, open_at_id}
 use Rattle.analyze.proofs.Taught.{Taught, IsClauseOf, kept_within, kept_lower, kept_place, point_kept}
 
-pub new_clause : (trail : TrailView) (clauses : List ArenaClause) (conflict point : ℕ) (walked met kept resolved clause : List ℕ) → Taught trail clauses conflict point walked met kept resolved → IsClauseOf clause (lit_at trail.entries) kept → IsNew clauses clause
-new_clause trail clauses conflict point walked met kept resolved clause t members id known within = by_literal (some_or_all (λ lit. lit ≡ opposite (lit_at trail.entries point)) Low (clause_at clauses id).lits look)
+pub new_clause : (trail : TrailView) (clauses : List ArenaClause) (conflict point : ℕ)
+    (resolved_from analyzed kept resolved clause : List ℕ)
+    → Taught trail clauses conflict point resolved_from analyzed kept resolved
+    → IsClauseOf clause (lit_at trail.entries) kept → IsNew clauses clause
+new_clause trail clauses conflict point resolved_from analyzed kept resolved clause t members id
+    known within = by_literal
+    (some_or_all (λ lit. lit ≡ opposite (lit_at trail.entries point)) Low
+    (clause_at clauses id).lits look)
   where
     Low : ℕ → Type 0
     Low lit = IsFalseLit (lits_of (up_to (trail.depth - 1) trail.entries)) lit
@@ -23,8 +29,14 @@ new_clause trail clauses conflict point walked met kept resolved clause t member
     low : (lit : ℕ) → lit ≢ opposite (lit_at trail.entries point) → ((place : ℕ) × Contains kept place × (lit_at trail.entries place ≡ opposite lit)) → Low lit
     low lit differs at =
         let apart : at.0 ≢ point = λ same. differs (sym (opposite-opposite lit) ∙ ap opposite (sym at.2 ∙ ap (lit_at trail.entries) same)) in
-        false_below trail.entries (trail.depth - 1) lit at.0 (kept_within trail clauses conflict point walked met kept resolved t at.0 at.1) at.2
-        (omega (arith, (kept_lower trail clauses conflict point walked met kept resolved t at.0 at.1 apart).1))
+        false_below trail.entries (trail.depth - 1) lit at.0
+        (kept_within trail clauses conflict point resolved_from analyzed kept resolved t at.0 at.1)
+        at.2
+        (omega (
+          arith,
+          (kept_lower trail clauses conflict point resolved_from analyzed kept resolved
+              t at.0 at.1 apart).1,
+        ))
 
     look : (lit : ℕ) → Contains (clause_at clauses id).lits lit → (lit ≡ opposite (lit_at trail.entries point)) ⊎ Low lit
     look lit has = by_lit (cases_eq lit (opposite (lit_at trail.entries point)))
@@ -42,7 +54,14 @@ new_clause trail clauses conflict point walked met kept resolved clause t member
     by_literal : ((lit : ℕ) × Contains (clause_at clauses id).lits lit × (lit ≡ opposite (lit_at trail.entries point))) ⊎ ((lit : ℕ) → Contains (clause_at clauses id).lits lit → Low lit) → ⊥
     by_literal (inl found) = (open_at_id clauses trail.entries (trail.depth - 1) id t.complete known).not_unit found.0 (record {
       free = unassigned_below trail.entries (trail.depth - 1) found.0 point t.is.once
-          (record { within = kept_within trail clauses conflict point walked met kept resolved t point (point_kept trail clauses conflict point walked met kept resolved t); is = at_point found.0 found.2 })
+          (record {
+            within =
+                kept_within trail clauses conflict point resolved_from analyzed kept resolved t
+                point
+                (point_kept trail clauses conflict point resolved_from analyzed kept resolved t);
+            is =
+                at_point found.0 found.2;
+          })
           (omega (arith, t.at.present, t.deep));
       rest = record { stands = found.1; others = λ other has differs. others found.0 other found.2 has differs };
     })

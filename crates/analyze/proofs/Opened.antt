@@ -1,11 +1,11 @@
--- How many of the places met are of the present level and below a bound.
+-- How many of the places seen are of the present level and below a bound.
 use Rattle.std.proofs.Common.{◌≡◌, ◌∙◌, ℕ, ◌+◌, ◌<◌, ◌≤◌, List, [], ◌∷◌, cond, Bool, true, false, refl, ap, subst, sym, inl, inr, arith, true≢false}
 use Rattle.std.specs.Prelude.{Contains, ◌⊎◌, ◌==◌, ◌&&◌, nat_lt}
 use Rattle.std.proofs.lemmas.Bool.{cases_lt, lt-ltb, le-ltb, eq-eqb}
 use Rattle.sat_base.proofs.Members.{Contains-cases}
 use Rattle.trail_core.specs.Trail.{Entry}
 use Rattle.analyze.specs.Graph.{level_at}
-use Rattle.analyze.specs.Meeting.{open_at, open_below}
+use Rattle.analyze.specs.Seen.{open_at, open_below}
 
 -- a greater bound counts no less
 open_at_grows : (entries : List Entry) (level low high place : ℕ) → low ≤ high → open_at entries level low place ≤ open_at entries level high place

@@ -11,57 +11,90 @@ use Rattle.trail_core.specs.Trail.{Entry, TrailView, StandsAt, IsTrail, lits_of}
 use Rattle.trail_core.specs.UnderTrail.{IsFalseLit, IsFalseClause, IsFounded, IsComplete}
 use Rattle.analyze.specs.Graph.{IsOfLevel, lit_at, level_at}
 use Rattle.analyze.specs.Learnt.{IsAsserting}
-use Rattle.analyze.specs.Walk.{IsWalked, IsPoint}
+use Rattle.analyze.specs.FirstUip.{IsResolvedFrom, IsFirstUip}
 use Rattle.analyze.specs.Cut.{MayStay, IsCut}
 use Rattle.analyze.specs.Naming.{HasClause}
-use Rattle.analyze.specs.declared.cut.Rule.TheVariants.{Learning}
+use Rattle.analyze.specs.declared.classify.Rule.TheVariants.{Learning}
 use Rattle.analyze.proofs.Forced.{true_at}
 use Rattle.analyze.proofs.Graph.{has_clause}
 
--- all that the walk and the cut have found
-pub record Taught (trail : TrailView) (clauses : List ArenaClause) (conflict point : ℕ) (walked met kept resolved : List ℕ) : Type 0 where
+-- all that the way to the point and the cut have found
+pub record Taught (trail : TrailView) (clauses : List ArenaClause) (conflict point : ℕ)
+    (resolved_from analyzed kept resolved : List ℕ) : Type 0 where
   pub is : IsTrail trail
   pub founded : IsFounded (lits_of_each clauses) trail.entries trail.depth
   pub deep : 0 < trail.depth
   pub complete : IsComplete trail.entries (trail.depth - 1) (lits_of_each clauses)
   pub known : conflict < length clauses
   pub refuted : IsFalseClause (lits_of trail.entries) (clause_at clauses conflict).lits
-  pub walk : IsWalked clauses trail.entries trail.depth (clause_at clauses conflict).lits (point + 1) walked
-  pub at : IsPoint trail.entries trail.depth walked point
-  pub cut : IsCut clauses trail.entries trail.depth (Learning point) walked met met kept resolved
+  pub first_uip : IsResolvedFrom clauses trail.entries trail.depth (clause_at clauses conflict).lits
+      (point + 1) resolved_from
+  pub at : IsFirstUip trail.entries trail.depth resolved_from point
+  pub cut : IsCut clauses trail.entries trail.depth (Learning point) resolved_from analyzed analyzed
+      kept resolved
   pub sorted : IsStrictlySortedBy nat_cmp resolved
 
 -- the clause has the negations of the literals at the places that stay
 abbrev pub IsClauseOf : List ℕ → (ℕ → ℕ) → List ℕ → Type 0
 IsClauseOf clause lit_of kept = (lit : ℕ) → Contains clause lit ↔ Contains (map lit_of kept) (opposite lit)
 
-pub kept_within : (trail : TrailView) (clauses : List ArenaClause) (conflict point : ℕ) (walked met kept resolved : List ℕ) → Taught trail clauses conflict point walked met kept resolved → (place : ℕ) → Contains kept place → place < length trail.entries
-kept_within trail clauses conflict point walked met kept resolved t place has = t.cut.within place (t.cut.kept_from place has)
+pub kept_within : (trail : TrailView) (clauses : List ArenaClause) (conflict point : ℕ)
+    (resolved_from analyzed kept resolved : List ℕ)
+    → Taught trail clauses conflict point resolved_from analyzed kept resolved → (place : ℕ)
+    → Contains kept place → place < length trail.entries
+kept_within trail clauses conflict point resolved_from analyzed kept resolved t place has =
+    t.cut.within place (t.cut.kept_from place has)
 
-pub all_within : (trail : TrailView) (clauses : List ArenaClause) (conflict point : ℕ) (walked met kept resolved : List ℕ) → Taught trail clauses conflict point walked met kept resolved → All (λ place. place < length trail.entries) kept
-all_within trail clauses conflict point walked met kept resolved t = All-from_members (λ place. place < length trail.entries) kept (kept_within trail clauses conflict point walked met kept resolved t)
+pub all_within : (trail : TrailView) (clauses : List ArenaClause) (conflict point : ℕ)
+    (resolved_from analyzed kept resolved : List ℕ)
+    → Taught trail clauses conflict point resolved_from analyzed kept resolved
+    → All (λ place. place < length trail.entries) kept
+all_within trail clauses conflict point resolved_from analyzed kept resolved t =
+    All-from_members (λ place. place < length trail.entries) kept
+    (kept_within trail clauses conflict point resolved_from analyzed kept resolved t)
 
-pub met_within : (trail : TrailView) (clauses : List ArenaClause) (conflict point : ℕ) (walked met kept resolved : List ℕ) → Taught trail clauses conflict point walked met kept resolved → All (λ place. place < length trail.entries) met
-met_within trail clauses conflict point walked met kept resolved t = All-from_members (λ place. place < length trail.entries) met t.cut.within
+pub met_within : (trail : TrailView) (clauses : List ArenaClause) (conflict point : ℕ)
+    (resolved_from analyzed kept resolved : List ℕ)
+    → Taught trail clauses conflict point resolved_from analyzed kept resolved
+    → All (λ place. place < length trail.entries) analyzed
+met_within trail clauses conflict point resolved_from analyzed kept resolved t =
+    All-from_members (λ place. place < length trail.entries) analyzed t.cut.within
 
-pub resolved_clause : (trail : TrailView) (clauses : List ArenaClause) (conflict point : ℕ) (walked met kept resolved : List ℕ) → Taught trail clauses conflict point walked met kept resolved → (place : ℕ) → Contains resolved place → HasClause clauses trail.entries place
-resolved_clause trail clauses conflict point walked met kept resolved t place has = has_clause trail clauses met place t.founded (t.cut.within place (t.cut.resolved_from place has)) (t.cut.resolvable place has)
+pub resolved_clause : (trail : TrailView) (clauses : List ArenaClause) (conflict point : ℕ)
+    (resolved_from analyzed kept resolved : List ℕ)
+    → Taught trail clauses conflict point resolved_from analyzed kept resolved → (place : ℕ)
+    → Contains resolved place → HasClause clauses trail.entries place
+resolved_clause trail clauses conflict point resolved_from analyzed kept resolved t place has =
+    has_clause trail clauses analyzed place t.founded
+    (t.cut.within place (t.cut.resolved_from place has)) (t.cut.resolvable place has)
 
-pub all_clauses : (trail : TrailView) (clauses : List ArenaClause) (conflict point : ℕ) (walked met kept resolved : List ℕ) → Taught trail clauses conflict point walked met kept resolved → All (HasClause clauses trail.entries) resolved
-all_clauses trail clauses conflict point walked met kept resolved t = All-from_members (HasClause clauses trail.entries) resolved (resolved_clause trail clauses conflict point walked met kept resolved t)
+pub all_clauses : (trail : TrailView) (clauses : List ArenaClause) (conflict point : ℕ)
+    (resolved_from analyzed kept resolved : List ℕ)
+    → Taught trail clauses conflict point resolved_from analyzed kept resolved
+    → All (HasClause clauses trail.entries) resolved
+all_clauses trail clauses conflict point resolved_from analyzed kept resolved t =
+    All-from_members (HasClause clauses trail.entries) resolved
+    (resolved_clause trail clauses conflict point resolved_from analyzed kept resolved t)
 
 -- the point stays
-pub point_kept : (trail : TrailView) (clauses : List ArenaClause) (conflict point : ℕ) (walked met kept resolved : List ℕ) → Taught trail clauses conflict point walked met kept resolved → Contains kept point
-point_kept trail clauses conflict point walked met kept resolved t = by_side (t.cut.split point (t.cut.still point t.at.is_met))
+pub point_kept : (trail : TrailView) (clauses : List ArenaClause) (conflict point : ℕ)
+    (resolved_from analyzed kept resolved : List ℕ)
+    → Taught trail clauses conflict point resolved_from analyzed kept resolved → Contains kept point
+point_kept trail clauses conflict point resolved_from analyzed kept resolved t =
+    by_side (t.cut.split point (t.cut.still point t.at.among))
   where
     by_side : Contains kept point ⊎ Contains resolved point → Contains kept point
     by_side (inl has) = has
     by_side (inr has) = absurd (t.cut.gone point has refl)
 
 -- what stays besides is of a level between
-pub kept_lower : (trail : TrailView) (clauses : List ArenaClause) (conflict point : ℕ) (walked met kept resolved : List ℕ) → Taught trail clauses conflict point walked met kept resolved → (place : ℕ) → Contains kept place → place ≢ point
+pub kept_lower : (trail : TrailView) (clauses : List ArenaClause) (conflict point : ℕ)
+    (resolved_from analyzed kept resolved : List ℕ)
+    → Taught trail clauses conflict point resolved_from analyzed kept resolved → (place : ℕ)
+    → Contains kept place → place ≢ point
     → (0 < level_at trail.entries place) × (level_at trail.entries place < trail.depth)
-kept_lower trail clauses conflict point walked met kept resolved t place has differs = by_stay (t.cut.stays place has)
+kept_lower trail clauses conflict point resolved_from analyzed kept resolved t place has differs =
+    by_stay (t.cut.stays place has)
   where
     by_kind : (place ≡ point) ⊎ (level_at trail.entries place < trail.depth) → level_at trail.entries place < trail.depth
     by_kind (inl same) = absurd (differs same)
@@ -77,46 +110,98 @@ kept_place entries kept clause members lit has = Contains-from_map (lit_at entri
 pub kept_stands : (entries : List Entry) (kept clause : List ℕ) → IsClauseOf clause (lit_at entries) kept → (place : ℕ) → Contains kept place → Contains clause (opposite (lit_at entries place))
 kept_stands entries kept clause members place has = (members (opposite (lit_at entries place))).1 (subst (Contains (map (lit_at entries) kept)) (sym (opposite-opposite (lit_at entries place))) (Contains-map (lit_at entries) kept place has))
 
-pub refuted_clause : (trail : TrailView) (clauses : List ArenaClause) (conflict point : ℕ) (walked met kept resolved clause : List ℕ) → Taught trail clauses conflict point walked met kept resolved → IsClauseOf clause (lit_at trail.entries) kept → IsFalseClause (lits_of trail.entries) clause
-refuted_clause trail clauses conflict point walked met kept resolved clause t members = record { each = All-from_members (IsFalseLit (lits_of trail.entries)) clause false_lit }
+pub refuted_clause : (trail : TrailView) (clauses : List ArenaClause) (conflict point : ℕ)
+    (resolved_from analyzed kept resolved clause : List ℕ)
+    → Taught trail clauses conflict point resolved_from analyzed kept resolved
+    → IsClauseOf clause (lit_at trail.entries) kept → IsFalseClause (lits_of trail.entries) clause
+refuted_clause trail clauses conflict point resolved_from analyzed kept resolved clause t members =
+    record { each = All-from_members (IsFalseLit (lits_of trail.entries)) clause false_lit }
   where
     false_lit : (lit : ℕ) → Contains clause lit → IsFalseLit (lits_of trail.entries) lit
     false_lit lit has =
         let at = kept_place trail.entries kept clause members lit has in
-        record { stands = subst (Contains (lits_of trail.entries)) at.2 (true_at trail.entries at.0 (kept_within trail clauses conflict point walked met kept resolved t at.0 at.1)) }
+        record {
+          stands = subst (Contains (lits_of trail.entries)) at.2
+              (true_at trail.entries at.0
+              (kept_within trail clauses conflict point resolved_from analyzed kept resolved t at.0
+              at.1));
+        }
 
-pub asserting_clause : (trail : TrailView) (clauses : List ArenaClause) (conflict point : ℕ) (walked met kept resolved clause : List ℕ) (back : ℕ) → Taught trail clauses conflict point walked met kept resolved → IsClauseOf clause (lit_at trail.entries) kept
+pub asserting_clause : (trail : TrailView) (clauses : List ArenaClause) (conflict point : ℕ)
+    (resolved_from analyzed kept resolved clause : List ℕ) (back : ℕ)
+    → Taught trail clauses conflict point resolved_from analyzed kept resolved
+    → IsClauseOf clause (lit_at trail.entries) kept
     → ((place : ℕ) → Contains kept place → place ≢ point → level_at trail.entries place ≤ back) → (back ≡ 0) ⊎ ((place : ℕ) × Contains kept place × (place ≢ point) × (level_at trail.entries place ≡ back))
     → IsAsserting trail.entries trail.depth back clause
-asserting_clause trail clauses conflict point walked met kept resolved clause back t members bound reached = record {
-  lit = opposite (lit_at trail.entries point);
-  stands = kept_stands trail.entries kept clause members point kept_point;
-  present = record { place = point; at = record { within = kept_within trail clauses conflict point walked met kept resolved t point kept_point; is = sym (variable-opposite (lit_at trail.entries point)) }; is = t.at.present };
-  others = λ other has differs. low other (kept_place trail.entries kept clause members other has) differs;
-  below = below reached;
-  reached = reach reached;
-}
+asserting_clause trail clauses conflict point resolved_from analyzed kept resolved clause back t
+    members bound reached = record {
+      lit = opposite (lit_at trail.entries point);
+      stands = kept_stands trail.entries kept clause members point kept_point;
+      present = record {
+        place = point;
+        at =
+            record {
+              within = kept_within trail clauses conflict point resolved_from analyzed kept
+                  resolved t point kept_point;
+              is = sym (variable-opposite (lit_at trail.entries point));
+            };
+        is =
+            t.at.present;
+      };
+      others = λ other has differs. low other
+          (kept_place trail.entries kept clause members other has) differs;
+      below = below reached;
+      reached = reach reached;
+    }
   where
     kept_point : Contains kept point
-    kept_point = point_kept trail clauses conflict point walked met kept resolved t
+    kept_point = point_kept trail clauses conflict point resolved_from analyzed kept resolved t
 
     stands_at : (lit place : ℕ) → Contains kept place → lit_at trail.entries place ≡ opposite lit → StandsAt trail.entries (variable lit) place
-    stands_at lit place has is = record { within = kept_within trail clauses conflict point walked met kept resolved t place has; is = ap variable is ∙ variable-opposite lit }
+    stands_at lit place has is =
+        record {
+          within = kept_within trail clauses conflict point resolved_from analyzed kept
+              resolved t place has;
+          is = ap variable is ∙ variable-opposite lit;
+        }
 
     low : (other : ℕ) → ((place : ℕ) × Contains kept place × (lit_at trail.entries place ≡ opposite other)) → other ≢ opposite (lit_at trail.entries point)
         → (level : ℕ) × IsOfLevel trail.entries other level × (0 < level) × (level ≤ back)
     low other at differs =
-        let apart : at.0 ≢ point = λ same. differs (sym (opposite-opposite other) ∙ ap opposite (sym at.2 ∙ ap (lit_at trail.entries) same)) in
-        (level_at trail.entries at.0, record { place = at.0; at = stands_at other at.0 at.1 at.2; is = refl }, (kept_lower trail clauses conflict point walked met kept resolved t at.0 at.1 apart).0, bound at.0 at.1 apart)
+        let apart : at.0 ≢ point =
+        λ same. differs (sym (opposite-opposite other)
+        ∙ ap opposite (sym at.2 ∙ ap (lit_at trail.entries) same)) in (
+          level_at trail.entries at.0,
+          record
+              { place = at.0; at = stands_at other at.0 at.1 at.2; is = refl },
+          (kept_lower trail clauses conflict point resolved_from analyzed kept resolved t at.0 at.1
+              apart).0,
+          bound at.0 at.1 apart,
+        )
 
     below : (back ≡ 0) ⊎ ((place : ℕ) × Contains kept place × (place ≢ point) × (level_at trail.entries place ≡ back)) → back < trail.depth
     below (inl none) = omega (arith, t.deep)
-    below (inr at) = omega (arith, (kept_lower trail clauses conflict point walked met kept resolved t at.0 at.1 at.2).1, at.3)
+    below (inr at) = omega (
+      arith,
+      (kept_lower trail clauses conflict point resolved_from analyzed kept resolved t at.0
+          at.1 at.2).1,
+      at.3,
+    )
 
     reach : (back ≡ 0) ⊎ ((place : ℕ) × Contains kept place × (place ≢ point) × (level_at trail.entries place ≡ back)) → (back ≡ 0) ⊎ ((other : ℕ) × Contains clause other × IsOfLevel trail.entries other back)
     reach (inl none) = inl none
     reach (inr at) = inr (
       opposite (lit_at trail.entries at.0),
       kept_stands trail.entries kept clause members at.0 at.1,
-      record { place = at.0; at = record { within = kept_within trail clauses conflict point walked met kept resolved t at.0 at.1; is = sym (variable-opposite (lit_at trail.entries at.0)) }; is = at.3 },
+      record {
+        place = at.0;
+        at =
+            record {
+              within = kept_within trail clauses conflict point resolved_from analyzed kept
+                  resolved t at.0 at.1;
+              is = sym (variable-opposite (lit_at trail.entries at.0));
+            };
+        is =
+            at.3;
+      },
     )

@@ -1,4 +1,5 @@
--- A trail as an implication graph: a node for each place, and for a forced literal the clause that forced it.
+-- A trail as an implication graph: a node for each place, and for a forced literal the clause that
+-- forced it.
 use Rattle.std.specs.Prelude.{◌≡◌, ℕ, ◌<◌, List, Contains, None}
 use Rattle.sat_base.specs.Lit.{variable}
 use Rattle.trail_core.specs.Trail.{Entry, StandsAt, entry_at}

@@ -10,8 +10,9 @@ use Rattle.clause_arena.specs.Arena.{ArenaClause, clause_at}
 use Rattle.trail_core.specs.Trail.{Entry, StandsAt}
 use Rattle.analyze.specs.Graph.{IsOfLevel, level_at}
 
--- An asserting clause: one literal is of the present level, and the others are of levels from 1 to `back`, which is the highest
--- of them, 0 without others. So it is unit once the trail is taken back to that level.
+-- An asserting clause: one literal is of the present level, and the others are of levels from 1 to
+-- `back`, which is the highest of them, 0 without others. So it is unit once the trail is taken
+-- back to that level.
 pub record IsAsserting (entries : List Entry) (depth back : ℕ) (clause : List ℕ) : Type 0 where
   pub lit : ℕ
   pub stands : Contains clause lit
@@ -33,8 +34,8 @@ pub record IsMetVariable (entries : List Entry) (hinted : List (List ℕ)) (var 
   pub at : StandsAt entries var place
   pub above : 0 < level_at entries place
 
--- Over the table the step is ok with exact tag, each literal of its clause stands in a clause that a hint names, and the met
--- variables are those above level 0 in these clauses.
+-- Over the table the step is ok with exact tag, each literal of its clause stands in a clause that
+-- a hint names, and the met variables are those above level 0 in these clauses.
 pub record IsLearntBy (table : Ref → Option Known) (entries : List Entry) (step : Step) (met : List ℕ) : Type 0 where
   pub ok : IsOkStep table step
   pub covered : (lit : ℕ) → Contains step.clause lit → StandsInOneOf (map (λ hint. clause_of (table hint)) step.hints) lit

@@ -2,7 +2,7 @@ pub mod Graph
 pub mod Table
 pub mod Learnt
 pub mod Refuted
-pub mod Meeting
-pub mod Walk
+pub mod Seen
+pub mod FirstUip
 pub mod Cut
 pub mod Naming

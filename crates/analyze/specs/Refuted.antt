@@ -18,8 +18,8 @@ pub record IsPart (entries : List Entry) (lit : ℕ) (part : List ℕ) : Type 0 
 abbrev pub IsNegationOf : List ℕ → List ℕ → Type 0
 IsNegationOf part clause = (lit : ℕ) → Contains clause lit ↔ Contains part (opposite lit)
 
--- Over the table the step is ok with exact tag, and where it has hints, each literal of its clause stands in a clause that a
--- hint names.
+-- Over the table the step is ok with exact tag, and where it has hints, each literal of its clause
+-- stands in a clause that a hint names.
 pub record IsRefutedBy (table : Ref → Option Known) (step : Step) : Type 0 where
   pub ok : IsOkStep table step
   pub covered : (IsTautology step.clause × (step.hints ≡ []))

@@ -1,5 +1,5 @@
--- What a table of known clauses has to know for a derivation from an arena: the arena's clauses under their origins, and the
--- unit clauses of level 0.
+-- What a table of known clauses has to know for a derivation from an arena: the arena's clauses
+-- under their origins, and the unit clauses of level 0.
 use Rattle.std.specs.Prelude.{◌≡◌, ℕ, ◌-◌, ◌<◌, ◌↔◌, List, [], ◌∷◌, length, Contains, Option, Some, slice_index, slice_index_or}
 use Rattle.sat_base.specs.Lit.{variable}
 use Rattle.sat_base.specs.declared.origins.Ref.{Ref}
@@ -27,7 +27,8 @@ unit_of units var = slice_index_or units (var - 1) (Input 0)
 abbrev pub tag_of_unit : List ℕ → ℕ → ℕ
 tag_of_unit tags var = slice_index tags (var - 1)
 
--- for each variable of level 0 the clause of its one true literal is known under the variable's name, with the variable's tag
+-- for each variable of level 0 the clause of its one true literal is known under the variable's
+-- name, with the variable's tag
 abbrev pub KnowsUnits : (Ref → Option Known) → List Entry → List Ref → List ℕ → Type 0
 KnowsUnits table entries units tags = (place : ℕ) → place < length entries → level_at entries place ≡ 0
     → IsNameOf table (unit_of units (variable (lit_at entries place))) (lit_at entries place ∷ []) (tag_of_unit tags (variable (lit_at entries place)))

@@ -12,13 +12,13 @@ ghost use Rattle.trail_core.specs.UnderTrail.{IsFalseClause, IsFounded, IsComple
 ghost use Rattle.analyze.specs.Graph.{IsVariableAbove, lit_at, level_at};
 ghost use Rattle.analyze.specs.Table.{KnowsArena, KnowsUnits};
 ghost use Rattle.analyze.specs.Learnt.{IsAsserting, IsNew, IsLearntBy};
-ghost use Rattle.analyze.specs.Meeting.{Agree, AreClear};
+ghost use Rattle.analyze.specs.Seen.{Agree, AreClear};
 
-use crate::cut::{Rule, make_cut};
-use crate::meeting::{clear, meet};
+use crate::classify::{Rule, classify};
+use crate::first_uip::first_uip;
 use crate::naming::cite_all;
 use crate::nodes::{level, literal};
-use crate::walk::walk;
+use crate::seen::{analyze_clause, clear};
 use crate::{Scratch, Variables};
 use clause_arena::Arena;
 use sat_base::{Clause, Lit, Ref};
@@ -39,17 +39,19 @@ pub struct Learnt {
     pub met: Variables,
 }
 
-/// Learns a clause from a clause of the arena that is false: resolves backwards along the trail until one
-/// literal of the present level is left, the first unique implication point (Marques-Silva and Sakallah), and
-/// drops each literal of a lower level whose reason has no other literals than the clause had before, or such
-/// as are false at level 0 (local minimization, Sörensson and Biere).
+/// Learns a clause from a clause of the arena that is false: resolves backwards along the trail
+/// until one literal of the present level is left, the first unique implication point
+/// (Marques-Silva and Sakallah), and drops each literal of a lower level whose reason has no other
+/// literals than the clause had before, or such as are false at level 0 (local minimization,
+/// Sörensson and Biere).
 ///
-/// Item v - 1 of `units` and `tags` belongs to variable v: for a variable of level 0 the name of the clause
-/// of its one true literal, and that clause's tag; the items of other variables say nothing. The trail is
-/// founded on the arena, and propagation was complete before the last decision.
+/// Item v - 1 of `units` and `tags` belongs to variable v: for a variable of level 0 the name of
+/// the clause of its one true literal, and that clause's tag; the items of other variables say
+/// nothing. The trail is founded on the arena, and propagation was complete before the last
+/// decision.
 ///
-/// The scratch is as before also where memory is wanting. The time is linear in the literals of the clauses
-/// that are resolved, besides two sorts of what was met.
+/// The scratch is as before also where memory is wanting. The time is linear in the literals of the
+/// clauses that are resolved, besides two sorts of what was seen.
 pub fn learn(
     alloc: Global,
     scratch: &mut Scratch,
@@ -78,35 +80,35 @@ pub fn learn(
     ensures derived { IfOk result (λ learnt. (table : Ref → Option Known) → KnowsArena table arena.now → KnowsUnits table trail.now.entries units.now tags.now
         → IsLearntBy table trail.now.entries learnt.step learnt.met) }
 {
-    let marks = scratch.marks.as_mut_slice();
+    let seen = scratch.seen.as_mut_slice();
     let outcome = derive(
         alloc,
-        marks,
-        &mut scratch.met,
+        seen,
+        &mut scratch.analyzed,
         arena,
         units,
         tags,
         trail,
         conflict,
     );
-    clear(marks, &mut scratch.met);
+    clear(seen, &mut scratch.analyzed);
     outcome
 }
 
-// Learns with marks and a list that the caller clears.
+// Learns with flags and a list that the caller clears.
 fn derive(
     alloc: Global,
-    marks: &mut [bool],
-    met: &mut Vec<usize>,
+    seen: &mut [bool],
+    analyzed: &mut Vec<usize>,
     arena: &Arena,
     units: &[Ref],
     tags: &[u32],
     trail: &Trail,
     conflict: usize,
 ) -> Result<Learnt, AllocError>
-    requires room { trail.now.vars ≤ length marks.old }
-    requires clear { AreClear marks.old }
-    requires empty { met.old.items ≡ [] }
+    requires room { trail.now.vars ≤ length seen.old }
+    requires clear { AreClear seen.old }
+    requires empty { analyzed.old.items ≡ [] }
     requires units { trail.now.vars ≤ length units.now }
     requires tags { trail.now.vars ≤ length tags.now }
     requires founded { IsFounded (lits_of_each arena.now) trail.now.entries trail.now.depth }
@@ -114,7 +116,7 @@ fn derive(
     requires complete { IsComplete trail.now.entries (trail.now.depth - 1) (lits_of_each arena.now) }
     requires known { conflict < length arena.now }
     requires refuted { IsFalseClause (lits_of trail.now.entries) (clause_at arena.now conflict).lits }
-    ensures agree { Agree marks.new met.new.items }
+    ensures agree { Agree seen.new analyzed.new.items }
     ensures step { IfOk result (λ learnt. learnt.step.clause ≡ learnt.clause) }
     ensures refuted { IfOk result (λ learnt. IsFalseClause (lits_of trail.now.entries) learnt.clause) }
     ensures asserting { IfOk result (λ learnt. IsAsserting trail.now.entries trail.now.depth learnt.back learnt.clause) }
@@ -123,9 +125,9 @@ fn derive(
     ensures derived { IfOk result (λ learnt. (table : Ref → Option Known) → KnowsArena table arena.now → KnowsUnits table trail.now.entries units.now tags.now
         → IsLearntBy table trail.now.entries learnt.step learnt.met) }
 {
-    let left = meet(marks, met, trail, arena.lits(conflict))?;
-    let point = walk(marks, met, arena, trail, conflict, left)?;
-    let parts = make_cut(alloc, marks, met, arena, trail, Rule::Learning(point))?;
+    let left = analyze_clause(seen, analyzed, trail, arena.lits(conflict))?;
+    let point = first_uip(seen, analyzed, arena, trail, conflict, left)?;
+    let parts = classify(alloc, seen, analyzed, arena, trail, Rule::Learning(point))?;
     let clause = clause_of(alloc, trail, &parts.kept)?;
     let mut cited = cite_all(alloc, arena, units, tags, trail, &parts.resolved)?;
     cited.names.push(arena.origin(conflict))?;
@@ -138,7 +140,7 @@ fn derive(
             hints: Hints::of(cited.names),
             tag,
         },
-        met: variables_of(alloc, trail, met)?,
+        met: variables_of(alloc, trail, analyzed)?,
     })
 }
 
@@ -169,14 +171,15 @@ fn highest_level(trail: &Trail, places: &[usize], but: usize) -> u32
     highest
 }
 
-// The variables above level 0 among the places met, in ascending order.
-fn variables_of(alloc: Global, trail: &Trail, met: &[usize]) -> Result<Variables, AllocError>
-    requires { All (λ place. place < length trail.now.entries) met.now }
+// The variables above level 0 among the places seen, in ascending order.
+fn variables_of(alloc: Global, trail: &Trail, analyzed: &[usize]) -> Result<Variables, AllocError>
+    requires { All (λ place. place < length trail.now.entries) analyzed.now }
     ensures ascending { IfOk result (λ vars. IsStrictlySortedBy nat_cmp vars) }
-    ensures members { IfOk result (λ vars. (var : ℕ) → Contains vars var ↔ IsVariableAbove trail.now.entries met.now var) }
+    ensures members { IfOk result
+        (λ vars. (var : ℕ) → Contains vars var ↔ IsVariableAbove trail.now.entries analyzed.now var) }
 {
     let mut vars = Vec::new(alloc);
-    for place in met {
+    for place in analyzed {
         if level(trail, *place) > 0 {
             vars.push(literal(trail, *place).var())?;
         }

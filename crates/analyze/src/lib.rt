@@ -1,20 +1,21 @@
-//! Analysis of conflicts: what a solver learns from a false clause, and which assumptions are to blame for a
-//! false literal.
+//! Analysis of conflicts: what a solver learns from a false clause, and which assumptions are to
+//! blame for a false literal.
 //!
-//! The layer above uses `learn` and `refute`, whose answers carry a step that a checker accepts over the
-//! arena's clauses and the unit clauses of level 0. This crate knows neither how the trail came about nor
-//! how clauses are found again: it reads a trail that is founded on an arena, and changes neither.
+//! The layer above uses `learn` and `refute`, whose answers carry a step that a checker accepts
+//! over the arena's clauses and the unit clauses of level 0. This crate knows neither how the trail
+//! came about nor how clauses are found again: it reads a trail that is founded on an arena, and
+//! changes neither.
 #![tactic(auto)]
 
-mod cut;
+mod classify;
+mod first_uip;
 mod learning;
-mod meeting;
 mod naming;
 mod nodes;
 mod refuting;
 mod scratch;
+mod seen;
 mod variables;
-mod walk;
 
 pub use learning::{Learnt, learn};
 pub use refuting::refute;

@@ -24,8 +24,8 @@ pub(crate) struct Citations {
     pub(crate) tag: u32,
 }
 
-/// The clause by which the literal at the place is resolved away: the unit clause of a literal of level 0, and
-/// the reason of another.
+/// The clause by which the literal at the place is resolved away: the unit clause of a literal of
+/// level 0, and the reason of another.
 pub(crate) fn cite(
     arena: &Arena,
     units: &[Ref],

@@ -10,26 +10,27 @@ ghost use Rattle.trail_core.specs.UnderTrail.{IsFalseLit, IsFounded};
 ghost use Rattle.analyze.specs.Graph.{IsDecision, lit_at, level_at};
 ghost use Rattle.analyze.specs.Table.{KnowsArena, KnowsUnits};
 ghost use Rattle.analyze.specs.Refuted.{IsPart, IsNegationOf, IsRefutedBy, IsExcludedOf};
-ghost use Rattle.analyze.specs.Meeting.{Agree, AreClear};
+ghost use Rattle.analyze.specs.Seen.{Agree, AreClear};
 
 use crate::Scratch;
-use crate::cut::{Rule, make_cut};
-use crate::meeting::{clear, meet};
+use crate::classify::{Rule, classify};
 use crate::naming::cite_all;
 use crate::nodes::{level, literal, reason};
+use crate::seen::{analyze_clause, clear};
 use clause_arena::Arena;
 use sat_base::{Clause, Cube, Lit, Ref};
 use std::alloc::{AllocError, Global};
 use trace_core::{Hints, Step};
 use trail_core::Trail;
 
-/// Which of the decisions refute a literal that is false: a part that holds the literal and decisions, and the
-/// step that derives the clause of the part's negated literals. Where the literal's negation is itself a
-/// decision, the part is these two, and the step is a tautology without hints.
+/// Which of the decisions refute a literal that is false: a part that holds the literal and
+/// decisions, and the step that derives the clause of the part's negated literals. Where the
+/// literal's negation is itself a decision, the part is these two, and the step is a tautology
+/// without hints.
 ///
-/// `units` and `tags` are as for `learn`, and the trail is founded on the arena. The scratch is as before
-/// also where memory is wanting. The time is linear in the literals of the clauses that the hints name,
-/// besides a sort of what was met.
+/// `units` and `tags` are as for `learn`, and the trail is founded on the arena. The scratch is as
+/// before also where memory is wanting. The time is linear in the literals of the clauses that the
+/// hints name, besides a sort of what was seen.
 pub fn refute(
     alloc: Global,
     scratch: &mut Scratch,
@@ -53,51 +54,51 @@ pub fn refute(
     ensures derived { IfOk result (λ answer. (table : Ref → Option Known) → KnowsArena table arena.now → KnowsUnits table trail.now.entries units.now tags.now
         → IsRefutedBy table answer.1) }
 {
-    let marks = scratch.marks.as_mut_slice();
+    let seen = scratch.seen.as_mut_slice();
     let outcome = blame(
         alloc,
-        marks,
-        &mut scratch.met,
+        seen,
+        &mut scratch.analyzed,
         arena,
         units,
         tags,
         trail,
         lit,
     );
-    clear(marks, &mut scratch.met);
+    clear(seen, &mut scratch.analyzed);
     outcome
 }
 
-// Finds the part with marks and a list that the caller clears.
+// Finds the part with flags and a list that the caller clears.
 fn blame(
     alloc: Global,
-    marks: &mut [bool],
-    met: &mut Vec<usize>,
+    seen: &mut [bool],
+    analyzed: &mut Vec<usize>,
     arena: &Arena,
     units: &[Ref],
     tags: &[u32],
     trail: &Trail,
     lit: Lit,
 ) -> Result<(Cube, Step), AllocError>
-    requires room { trail.now.vars ≤ length marks.old }
-    requires clear { AreClear marks.old }
-    requires empty { met.old.items ≡ [] }
+    requires room { trail.now.vars ≤ length seen.old }
+    requires clear { AreClear seen.old }
+    requires empty { analyzed.old.items ≡ [] }
     requires units { trail.now.vars ≤ length units.now }
     requires tags { trail.now.vars ≤ length tags.now }
     requires founded { IsFounded (lits_of_each arena.now) trail.now.entries trail.now.depth }
     requires refuted { IsFalseLit (lits_of trail.now.entries) lit }
-    ensures agree { Agree marks.new met.new.items }
+    ensures agree { Agree seen.new analyzed.new.items }
     ensures part { IfOk result (λ answer. IsPart trail.now.entries lit answer.0) }
     ensures negation { IfOk result (λ answer. IsNegationOf answer.0 answer.1.clause) }
     ensures decided { IfOk result (λ answer. IsDecision trail.now.entries (opposite lit) → IsTautology answer.1.clause × (answer.1.hints ≡ [])) }
     ensures derived { IfOk result (λ answer. (table : Ref → Option Known) → KnowsArena table arena.now → KnowsUnits table trail.now.entries units.now tags.now
         → IsRefutedBy table answer.1) }
 {
-    meet(marks, met, trail, &[lit])?;
-    if is_decision(trail, met[0]) {
+    analyze_clause(seen, analyzed, trail, &[lit])?;
+    if is_decision(trail, analyzed[0]) {
         return excluded_middle(alloc, lit);
     }
-    let parts = make_cut(alloc, marks, met, arena, trail, Rule::Refuting)?;
+    let parts = classify(alloc, seen, analyzed, arena, trail, Rule::Refuting)?;
     let part = part_of(alloc, trail, &parts.kept, lit)?;
     let cited = cite_all(alloc, arena, units, tags, trail, &parts.resolved)?;
     let clause = part.negated(alloc)?;

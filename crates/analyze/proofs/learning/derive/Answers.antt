@@ -7,124 +7,161 @@ use Rattle.trail_core.specs.Trail.{lits_of}
 use Rattle.trail_core.specs.UnderTrail.{IsFalseClause}
 use Rattle.analyze.specs.Learnt.{IsAsserting, IsNew}
 use Rattle.analyze.specs.Graph.{IsPlaceOf, IsVariableAbove, lit_at, level_at}
-use Rattle.analyze.specs.Meeting.{HasMet, HasGrown}
+use Rattle.analyze.specs.Seen.{AreAllSeen, HasGrown}
 use Rattle.analyze.specs.Naming.{HasClause, name_for, tag_for}
 use Rattle.analyze.proofs.Forced.{present_in_false}
-use Rattle.analyze.proofs.Walked.{walked_start, under_way_start}
+use Rattle.analyze.proofs.ToFirstUip.{resolved_start, under_way_start}
 use Rattle.analyze.proofs.Taught.{Taught, IsClauseOf, all_within, met_within, all_clauses, refuted_clause, asserting_clause}
 use Rattle.analyze.proofs.New.{new_clause}
 use Rattle.analyze.proofs.Justified.{learnt_by}
 use Rattle.analyze.proofs.learning.derive.Goals as goal
 
-pub walk-requires-clause-walked : goal.walk-requires-clause-walked
-walk-requires-clause-walked c =
-    walked_start c.args.arena.now c.args.trail.now.entries c.args.trail.now.depth (clause_at c.args.arena.now c.args.conflict).lits c.args.met.now.items c.meet.new.met.items c.in_ok-left.left c.requires.empty
-    (subst (HasMet c.args.trail.now.entries c.meet.new.met.items) c.lits.ensures.value c.in_ok-left.ensures.meets)
-    (subst (λ (ls : List ℕ). HasGrown c.args.trail.now.entries c.args.trail.now.depth (IsPlaceOf c.args.trail.now.entries ls) c.args.met.now.items c.meet.new.met.items c.in_ok-left.left) c.lits.ensures.value c.in_ok-left.ensures.grown)
+pub first_uip-requires-clause-resolved_from : goal.first_uip-requires-clause-resolved_from
+first_uip-requires-clause-resolved_from c =
+    resolved_start c.args.arena.now c.args.trail.now.entries c.args.trail.now.depth
+    (clause_at c.args.arena.now c.args.conflict).lits c.args.analyzed.now.items
+    c.analyze_clause.new.analyzed.items c.in_ok-left.left c.requires.empty
+    (subst (AreAllSeen c.args.trail.now.entries c.analyze_clause.new.analyzed.items)
+    c.lits.ensures.value c.in_ok-left.ensures.all_seen)
+    (subst (λ (ls : List ℕ). HasGrown c.args.trail.now.entries c.args.trail.now.depth
+    (IsPlaceOf c.args.trail.now.entries ls) c.args.analyzed.now.items
+    c.analyze_clause.new.analyzed.items c.in_ok-left.left) c.lits.ensures.value
+    c.in_ok-left.ensures.grown)
 
-pub walk-requires-clause-under_way : goal.walk-requires-clause-under_way
-walk-requires-clause-under_way c =
-    under_way_start c.args.trail.now.entries c.args.trail.now.depth (clause_at c.args.arena.now c.args.conflict).lits c.args.met.now.items c.meet.new.met.items c.in_ok-left.left c.requires.empty
-    (subst (HasMet c.args.trail.now.entries c.meet.new.met.items) c.lits.ensures.value c.in_ok-left.ensures.meets)
-    (subst (λ (ls : List ℕ). HasGrown c.args.trail.now.entries c.args.trail.now.depth (IsPlaceOf c.args.trail.now.entries ls) c.args.met.now.items c.meet.new.met.items c.in_ok-left.left) c.lits.ensures.value c.in_ok-left.ensures.grown)
-    (present_in_false c.args.trail.now c.args.arena.now c.args.conflict c.meet.ensures.trail c.requires.deep c.requires.complete c.requires.known c.requires.refuted)
+pub first_uip-requires-clause-under_way : goal.first_uip-requires-clause-under_way
+first_uip-requires-clause-under_way c =
+    under_way_start c.args.trail.now.entries c.args.trail.now.depth
+    (clause_at c.args.arena.now c.args.conflict).lits c.args.analyzed.now.items
+    c.analyze_clause.new.analyzed.items c.in_ok-left.left c.requires.empty
+    (subst (AreAllSeen c.args.trail.now.entries c.analyze_clause.new.analyzed.items)
+    c.lits.ensures.value c.in_ok-left.ensures.all_seen)
+    (subst (λ (ls : List ℕ). HasGrown c.args.trail.now.entries c.args.trail.now.depth
+    (IsPlaceOf c.args.trail.now.entries ls) c.args.analyzed.now.items
+    c.analyze_clause.new.analyzed.items c.in_ok-left.left) c.lits.ensures.value
+    c.in_ok-left.ensures.grown)
+    (present_in_false c.args.trail.now c.args.arena.now c.args.conflict
+    c.analyze_clause.ensures.trail c.requires.deep c.requires.complete c.requires.known
+    c.requires.refuted)
 
 pub clause_of-requires : goal.clause_of-requires
 clause_of-requires c =
-    let t : Taught c.args.trail.now c.args.arena.now c.args.conflict c.in_ok-point.point c.walk.new.met.items c.make_cut.new.met.items c.in_ok-parts.parts.kept.items c.in_ok-parts.parts.resolved.items = record {
-      is = c.meet.ensures.trail;
+    let t : Taught c.args.trail.now c.args.arena.now c.args.conflict c.in_ok-point.point
+    c.first_uip.new.analyzed.items c.classify.new.analyzed.items c.in_ok-parts.parts.kept.items
+    c.in_ok-parts.parts.resolved.items = record {
+      is = c.analyze_clause.ensures.trail;
       founded = c.requires.founded;
       deep = c.requires.deep;
       complete = c.requires.complete;
       known = c.requires.known;
       refuted = c.requires.refuted;
-      walk = c.in_ok-point.ensures.walked;
+      first_uip = c.in_ok-point.ensures.resolved_from;
       at = c.in_ok-point.ensures.point;
       cut = c.in_ok-parts.ensures.cut;
       sorted = c.in_ok-parts.ensures.ascending;
     } in
     subst (λ (xs : List ℕ). All (λ place. place < length c.args.trail.now.entries) xs) (sym c.deref.ensures.value)
-    (all_within c.args.trail.now c.args.arena.now c.args.conflict c.in_ok-point.point c.walk.new.met.items c.make_cut.new.met.items c.in_ok-parts.parts.kept.items c.in_ok-parts.parts.resolved.items t)
+    (all_within c.args.trail.now c.args.arena.now c.args.conflict c.in_ok-point.point
+    c.first_uip.new.analyzed.items c.classify.new.analyzed.items c.in_ok-parts.parts.kept.items
+    c.in_ok-parts.parts.resolved.items t)
 
 pub cite_all-requires-clause-clauses : goal.cite_all-requires-clause-clauses
 cite_all-requires-clause-clauses c =
-    let t : Taught c.args.trail.now c.args.arena.now c.args.conflict c.in_ok-point.point c.walk.new.met.items c.make_cut.new.met.items c.in_ok-parts.parts.kept.items c.in_ok-parts.parts.resolved.items = record {
-      is = c.meet.ensures.trail;
+    let t : Taught c.args.trail.now c.args.arena.now c.args.conflict c.in_ok-point.point
+    c.first_uip.new.analyzed.items c.classify.new.analyzed.items c.in_ok-parts.parts.kept.items
+    c.in_ok-parts.parts.resolved.items = record {
+      is = c.analyze_clause.ensures.trail;
       founded = c.requires.founded;
       deep = c.requires.deep;
       complete = c.requires.complete;
       known = c.requires.known;
       refuted = c.requires.refuted;
-      walk = c.in_ok-point.ensures.walked;
+      first_uip = c.in_ok-point.ensures.resolved_from;
       at = c.in_ok-point.ensures.point;
       cut = c.in_ok-parts.ensures.cut;
       sorted = c.in_ok-parts.ensures.ascending;
     } in
     subst (All (HasClause c.args.arena.now c.args.trail.now.entries)) (sym c.deref-2.ensures.value)
-    (all_clauses c.args.trail.now c.args.arena.now c.args.conflict c.in_ok-point.point c.walk.new.met.items c.make_cut.new.met.items c.in_ok-parts.parts.kept.items c.in_ok-parts.parts.resolved.items t)
+    (all_clauses c.args.trail.now c.args.arena.now c.args.conflict c.in_ok-point.point
+    c.first_uip.new.analyzed.items c.classify.new.analyzed.items c.in_ok-parts.parts.kept.items
+    c.in_ok-parts.parts.resolved.items t)
 
 pub highest_level-requires : goal.highest_level-requires
 highest_level-requires c =
-    let t : Taught c.args.trail.now c.args.arena.now c.args.conflict c.in_ok-point.point c.walk.new.met.items c.make_cut.new.met.items c.in_ok-parts.parts.kept.items c.in_ok-parts.parts.resolved.items = record {
-      is = c.meet.ensures.trail;
+    let t : Taught c.args.trail.now c.args.arena.now c.args.conflict c.in_ok-point.point
+    c.first_uip.new.analyzed.items c.classify.new.analyzed.items c.in_ok-parts.parts.kept.items
+    c.in_ok-parts.parts.resolved.items = record {
+      is = c.analyze_clause.ensures.trail;
       founded = c.requires.founded;
       deep = c.requires.deep;
       complete = c.requires.complete;
       known = c.requires.known;
       refuted = c.requires.refuted;
-      walk = c.in_ok-point.ensures.walked;
+      first_uip = c.in_ok-point.ensures.resolved_from;
       at = c.in_ok-point.ensures.point;
       cut = c.in_ok-parts.ensures.cut;
       sorted = c.in_ok-parts.ensures.ascending;
     } in
     subst (λ (xs : List ℕ). All (λ place. place < length c.args.trail.now.entries) xs) (sym c.deref-3.ensures.value)
-    (all_within c.args.trail.now c.args.arena.now c.args.conflict c.in_ok-point.point c.walk.new.met.items c.make_cut.new.met.items c.in_ok-parts.parts.kept.items c.in_ok-parts.parts.resolved.items t)
+    (all_within c.args.trail.now c.args.arena.now c.args.conflict c.in_ok-point.point
+    c.first_uip.new.analyzed.items c.classify.new.analyzed.items c.in_ok-parts.parts.kept.items
+    c.in_ok-parts.parts.resolved.items t)
 
 pub variables_of-requires : goal.variables_of-requires
 variables_of-requires c =
-    let t : Taught c.args.trail.now c.args.arena.now c.args.conflict c.in_ok-point.point c.walk.new.met.items c.make_cut.new.met.items c.in_ok-parts.parts.kept.items c.in_ok-parts.parts.resolved.items = record {
-      is = c.meet.ensures.trail;
+    let t : Taught c.args.trail.now c.args.arena.now c.args.conflict c.in_ok-point.point
+    c.first_uip.new.analyzed.items c.classify.new.analyzed.items c.in_ok-parts.parts.kept.items
+    c.in_ok-parts.parts.resolved.items = record {
+      is = c.analyze_clause.ensures.trail;
       founded = c.requires.founded;
       deep = c.requires.deep;
       complete = c.requires.complete;
       known = c.requires.known;
       refuted = c.requires.refuted;
-      walk = c.in_ok-point.ensures.walked;
+      first_uip = c.in_ok-point.ensures.resolved_from;
       at = c.in_ok-point.ensures.point;
       cut = c.in_ok-parts.ensures.cut;
       sorted = c.in_ok-parts.ensures.ascending;
     } in
     subst (λ (xs : List ℕ). All (λ place. place < length c.args.trail.now.entries) xs) (sym c.deref-4.ensures.value)
-    (met_within c.args.trail.now c.args.arena.now c.args.conflict c.in_ok-point.point c.walk.new.met.items c.make_cut.new.met.items c.in_ok-parts.parts.kept.items c.in_ok-parts.parts.resolved.items t)
+    (met_within c.args.trail.now c.args.arena.now c.args.conflict c.in_ok-point.point
+    c.first_uip.new.analyzed.items c.classify.new.analyzed.items c.in_ok-parts.parts.kept.items
+    c.in_ok-parts.parts.resolved.items t)
 
 pub returns-clause-refuted : goal.returns-clause-refuted
 returns-clause-refuted c =
-    let t : Taught c.args.trail.now c.args.arena.now c.args.conflict c.in_ok-point.point c.walk.new.met.items c.make_cut.new.met.items c.in_ok-parts.parts.kept.items c.in_ok-parts.parts.resolved.items = record {
-      is = c.meet.ensures.trail;
+    let t : Taught c.args.trail.now c.args.arena.now c.args.conflict c.in_ok-point.point
+    c.first_uip.new.analyzed.items c.classify.new.analyzed.items c.in_ok-parts.parts.kept.items
+    c.in_ok-parts.parts.resolved.items = record {
+      is = c.analyze_clause.ensures.trail;
       founded = c.requires.founded;
       deep = c.requires.deep;
       complete = c.requires.complete;
       known = c.requires.known;
       refuted = c.requires.refuted;
-      walk = c.in_ok-point.ensures.walked;
+      first_uip = c.in_ok-point.ensures.resolved_from;
       at = c.in_ok-point.ensures.point;
       cut = c.in_ok-parts.ensures.cut;
       sorted = c.in_ok-parts.ensures.ascending;
     } in
     let members : IsClauseOf c.in_ok-clause.clause (lit_at c.args.trail.now.entries) c.in_ok-parts.parts.kept.items =
     subst (IsClauseOf c.in_ok-clause.clause (lit_at c.args.trail.now.entries)) c.deref.ensures.value c.in_ok-clause.ensures in
-    subst (IsFalseClause (lits_of c.args.trail.now.entries)) (sym c.in_ok-copy.ensures) (refuted_clause c.args.trail.now c.args.arena.now c.args.conflict c.in_ok-point.point c.walk.new.met.items c.make_cut.new.met.items c.in_ok-parts.parts.kept.items c.in_ok-parts.parts.resolved.items c.in_ok-clause.clause t members)
+    subst (IsFalseClause (lits_of c.args.trail.now.entries)) (sym c.in_ok-copy.ensures)
+    (refuted_clause c.args.trail.now c.args.arena.now c.args.conflict c.in_ok-point.point
+    c.first_uip.new.analyzed.items c.classify.new.analyzed.items c.in_ok-parts.parts.kept.items
+    c.in_ok-parts.parts.resolved.items c.in_ok-clause.clause t members)
 
 pub returns-clause-asserting : goal.returns-clause-asserting
 returns-clause-asserting c =
-    let t : Taught c.args.trail.now c.args.arena.now c.args.conflict c.in_ok-point.point c.walk.new.met.items c.make_cut.new.met.items c.in_ok-parts.parts.kept.items c.in_ok-parts.parts.resolved.items = record {
-      is = c.meet.ensures.trail;
+    let t : Taught c.args.trail.now c.args.arena.now c.args.conflict c.in_ok-point.point
+    c.first_uip.new.analyzed.items c.classify.new.analyzed.items c.in_ok-parts.parts.kept.items
+    c.in_ok-parts.parts.resolved.items = record {
+      is = c.analyze_clause.ensures.trail;
       founded = c.requires.founded;
       deep = c.requires.deep;
       complete = c.requires.complete;
       known = c.requires.known;
       refuted = c.requires.refuted;
-      walk = c.in_ok-point.ensures.walked;
+      first_uip = c.in_ok-point.ensures.resolved_from;
       at = c.in_ok-point.ensures.point;
       cut = c.in_ok-parts.ensures.cut;
       sorted = c.in_ok-parts.ensures.ascending;
@@ -132,45 +169,56 @@ returns-clause-asserting c =
     let members : IsClauseOf c.in_ok-clause.clause (lit_at c.args.trail.now.entries) c.in_ok-parts.parts.kept.items =
     subst (IsClauseOf c.in_ok-clause.clause (lit_at c.args.trail.now.entries)) c.deref.ensures.value c.in_ok-clause.ensures in
     subst (IsAsserting c.args.trail.now.entries c.args.trail.now.depth c.highest_level.result) (sym c.in_ok-copy.ensures)
-    (asserting_clause c.args.trail.now c.args.arena.now c.args.conflict c.in_ok-point.point c.walk.new.met.items c.make_cut.new.met.items c.in_ok-parts.parts.kept.items c.in_ok-parts.parts.resolved.items c.in_ok-clause.clause c.highest_level.result t members
+    (asserting_clause c.args.trail.now c.args.arena.now c.args.conflict c.in_ok-point.point
+    c.first_uip.new.analyzed.items c.classify.new.analyzed.items c.in_ok-parts.parts.kept.items
+    c.in_ok-parts.parts.resolved.items c.in_ok-clause.clause c.highest_level.result t members
     (λ place has differs. c.highest_level.ensures.bound place (subst (λ (xs : List ℕ). Contains xs place) (sym c.deref-3.ensures.value) has) differs)
     (subst (λ (xs : List ℕ). (c.highest_level.result ≡ 0) ⊎ ((place : ℕ) × Contains xs place × (place ≢ c.in_ok-point.point) × (level_at c.args.trail.now.entries place ≡ c.highest_level.result))) c.deref-3.ensures.value c.highest_level.ensures.reached))
 
 pub returns-clause-fresh : goal.returns-clause-fresh
 returns-clause-fresh c =
-    let t : Taught c.args.trail.now c.args.arena.now c.args.conflict c.in_ok-point.point c.walk.new.met.items c.make_cut.new.met.items c.in_ok-parts.parts.kept.items c.in_ok-parts.parts.resolved.items = record {
-      is = c.meet.ensures.trail;
+    let t : Taught c.args.trail.now c.args.arena.now c.args.conflict c.in_ok-point.point
+    c.first_uip.new.analyzed.items c.classify.new.analyzed.items c.in_ok-parts.parts.kept.items
+    c.in_ok-parts.parts.resolved.items = record {
+      is = c.analyze_clause.ensures.trail;
       founded = c.requires.founded;
       deep = c.requires.deep;
       complete = c.requires.complete;
       known = c.requires.known;
       refuted = c.requires.refuted;
-      walk = c.in_ok-point.ensures.walked;
+      first_uip = c.in_ok-point.ensures.resolved_from;
       at = c.in_ok-point.ensures.point;
       cut = c.in_ok-parts.ensures.cut;
       sorted = c.in_ok-parts.ensures.ascending;
     } in
     let members : IsClauseOf c.in_ok-clause.clause (lit_at c.args.trail.now.entries) c.in_ok-parts.parts.kept.items =
     subst (IsClauseOf c.in_ok-clause.clause (lit_at c.args.trail.now.entries)) c.deref.ensures.value c.in_ok-clause.ensures in
-    subst (IsNew c.args.arena.now) (sym c.in_ok-copy.ensures) (new_clause c.args.trail.now c.args.arena.now c.args.conflict c.in_ok-point.point c.walk.new.met.items c.make_cut.new.met.items c.in_ok-parts.parts.kept.items c.in_ok-parts.parts.resolved.items c.in_ok-clause.clause t members)
+    subst (IsNew c.args.arena.now) (sym c.in_ok-copy.ensures)
+    (new_clause c.args.trail.now c.args.arena.now c.args.conflict c.in_ok-point.point
+    c.first_uip.new.analyzed.items c.classify.new.analyzed.items c.in_ok-parts.parts.kept.items
+    c.in_ok-parts.parts.resolved.items c.in_ok-clause.clause t members)
 
 pub returns-clause-derived : goal.returns-clause-derived
 returns-clause-derived c = λ table arena known.
-    let t : Taught c.args.trail.now c.args.arena.now c.args.conflict c.in_ok-point.point c.walk.new.met.items c.make_cut.new.met.items c.in_ok-parts.parts.kept.items c.in_ok-parts.parts.resolved.items = record {
-      is = c.meet.ensures.trail;
+    let t : Taught c.args.trail.now c.args.arena.now c.args.conflict c.in_ok-point.point
+    c.first_uip.new.analyzed.items c.classify.new.analyzed.items c.in_ok-parts.parts.kept.items
+    c.in_ok-parts.parts.resolved.items = record {
+      is = c.analyze_clause.ensures.trail;
       founded = c.requires.founded;
       deep = c.requires.deep;
       complete = c.requires.complete;
       known = c.requires.known;
       refuted = c.requires.refuted;
-      walk = c.in_ok-point.ensures.walked;
+      first_uip = c.in_ok-point.ensures.resolved_from;
       at = c.in_ok-point.ensures.point;
       cut = c.in_ok-parts.ensures.cut;
       sorted = c.in_ok-parts.ensures.ascending;
     } in
     let members : IsClauseOf c.in_ok-clause.clause (lit_at c.args.trail.now.entries) c.in_ok-parts.parts.kept.items =
     subst (IsClauseOf c.in_ok-clause.clause (lit_at c.args.trail.now.entries)) c.deref.ensures.value c.in_ok-clause.ensures in
-    learnt_by table c.args.trail.now c.args.arena.now c.args.units.now c.args.tags.now c.args.conflict c.in_ok-point.point c.walk.new.met.items c.make_cut.new.met.items c.in_ok-parts.parts.kept.items c.in_ok-parts.parts.resolved.items
+    learnt_by table c.args.trail.now c.args.arena.now c.args.units.now c.args.tags.now
+    c.args.conflict c.in_ok-point.point c.first_uip.new.analyzed.items c.classify.new.analyzed.items
+    c.in_ok-parts.parts.kept.items c.in_ok-parts.parts.resolved.items
     c.in_ok-variables_of.field-0 (record { clause = c.in_ok-clause.clause; hints = c.of.result; tag = c.max-tag.result }) arena known t members
     (c.of.ensures ∙ c.in_ok-push.ensures.items ∙ ap (λ (xs : List Ref). xs ++ c.origin.result ∷ []) (c.in_ok-cited.ensures.names ∙ ap (map (name_for c.args.arena.now c.args.trail.now.entries c.args.units.now)) c.deref-2.ensures.value)
     ∙ ap (λ (name : Ref). map (name_for c.args.arena.now c.args.trail.now.entries c.args.units.now) c.in_ok-parts.parts.resolved.items ++ name ∷ []) c.origin.ensures)

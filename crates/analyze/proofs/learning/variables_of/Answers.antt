@@ -14,11 +14,18 @@ pub loop-place-preserved : goal.loop-place-preserved
 loop-place-preserved c =
     elim c.if-level-gt0.branch [
       | then-level-gt0+in_ok-push w ↦
-          variable_more c.args.trail.now.entries c.args.met.now c.loop-place.place-index c.loop-place.vars.items c.if-level-gt0.vars.items c.loop-place-test.true (omega (arith, w.if-level-gt0.true, c.level.ensures.value))
+          variable_more c.args.trail.now.entries c.args.analyzed.now c.loop-place.place-index
+          c.loop-place.vars.items c.if-level-gt0.vars.items c.loop-place-test.true
+          (omega (arith, w.if-level-gt0.true, c.level.ensures.value))
           (ap (λ v. v.items) w.vars-is ∙ w.in_ok-push.ensures.items ∙ ap (λ v. c.loop-place.vars.items ++ v ∷ []) (w.var.ensures.value ∙ ap variable w.literal.ensures.value)) c.loop-place.invariant
       | else-level-gt0 w ↦
-          subst (λ (xs : List ℕ). (var : ℕ) → Contains xs var ↔ IsVariableAbove c.args.trail.now.entries (take (c.loop-place.place-index + 1) c.args.met.now) var) (sym (ap (λ v. v.items) w.vars-is))
-          (variable_skip c.args.trail.now.entries c.args.met.now c.loop-place.place-index c.loop-place.vars.items c.loop-place-test.true (omega (arith, w.if-level-gt0.false, c.level.ensures.value)) c.loop-place.invariant)
+          subst (λ (xs : List ℕ). (var : ℕ)
+          → Contains xs var ↔ IsVariableAbove c.args.trail.now.entries
+          (take (c.loop-place.place-index + 1) c.args.analyzed.now) var)
+          (sym (ap (λ v. v.items) w.vars-is))
+          (variable_skip c.args.trail.now.entries c.args.analyzed.now c.loop-place.place-index
+          c.loop-place.vars.items c.loop-place-test.true
+          (omega (arith, w.if-level-gt0.false, c.level.ensures.value)) c.loop-place.invariant)
     ]
 
 pub returns-clause-ascending : goal.returns-clause-ascending
@@ -28,7 +35,10 @@ returns-clause-ascending c =
 
 pub returns-clause-members : goal.returns-clause-members
 returns-clause-members c =
-    subst (λ (xs : List ℕ). (var : ℕ) → Contains xs var ↔ IsVariableAbove c.args.trail.now.entries c.args.met.now var) (sym c.of.ensures)
-    (variable_whole c.args.trail.now.entries c.args.met.now c.loop-place.place-index c.loop-place.vars.items c.dedup.new.self.items c.loop-place-test.false
+    subst (λ (xs : List ℕ). (var : ℕ)
+    → Contains xs var ↔ IsVariableAbove c.args.trail.now.entries c.args.analyzed.now var)
+    (sym c.of.ensures)
+    (variable_whole c.args.trail.now.entries c.args.analyzed.now c.loop-place.place-index
+    c.loop-place.vars.items c.dedup.new.self.items c.loop-place-test.false
     (same_members c.loop-place.vars.items c.sort.new.self.items c.dedup.new.self.items c.in_ok-sort.ensures.permutation (dedup_is eqb c.sort.new.self.items c.dedup.new.self.items c.dedup.ensures.filtered))
     c.loop-place.invariant)

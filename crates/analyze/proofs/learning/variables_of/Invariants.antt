@@ -4,4 +4,6 @@ use Rattle.analyze.specs.Graph.{IsVariableAbove}
 use Rattle.analyze.proofs.learning.variables_of.Given as goal
 
 abbrev pub invariant-loop-place : goal.invariant-loop-place
-invariant-loop-place l = (var : ℕ) → Contains l.vars.items var ↔ IsVariableAbove l.trail.entries (take l.place-index l.met) var
+invariant-loop-place l = (var : ℕ)
+    → Contains l.vars.items var ↔ IsVariableAbove l.trail.entries (take l.place-index l.analyzed)
+    var

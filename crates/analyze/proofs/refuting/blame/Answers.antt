@@ -17,21 +17,38 @@ use Rattle.analyze.proofs.refuting.blame.Goals as goal
 
 pub index-requires : goal.index-requires
 index-requires c =
-    let top = top_of c.args.trail.now c.args.lit c.args.met.now.items c.meet.new.met.items c.in_ok-meet.field-0 c.meet.ensures.trail c.requires.empty c.requires.refuted c.in_ok-meet.ensures.meets c.in_ok-meet.ensures.grown in
+    let top = top_of c.args.trail.now c.args.lit c.args.analyzed.now.items
+    c.analyze_clause.new.analyzed.items c.in_ok-analyze_clause.field-0
+    c.analyze_clause.ensures.trail c.requires.empty c.requires.refuted
+    c.in_ok-analyze_clause.ensures.all_seen c.in_ok-analyze_clause.ensures.grown in
     omega (arith, top.1.has.1)
 
 pub is_decision-requires : goal.is_decision-requires
 is_decision-requires c =
-    let top = top_of c.args.trail.now c.args.lit c.args.met.now.items c.meet.new.met.items c.in_ok-meet.field-0 c.meet.ensures.trail c.requires.empty c.requires.refuted c.in_ok-meet.ensures.meets c.in_ok-meet.ensures.grown in
-    let index : c.index.result.now ≡ top.0 = top.1.only c.index.result.now (subst (Contains c.meet.new.met.items) (sym c.index.ensures) (Contains-get_or c.meet.new.met.items 0 c.index.result.now (omega (arith, top.1.has.1)))) in
+    let top = top_of c.args.trail.now c.args.lit c.args.analyzed.now.items
+    c.analyze_clause.new.analyzed.items c.in_ok-analyze_clause.field-0
+    c.analyze_clause.ensures.trail c.requires.empty c.requires.refuted
+    c.in_ok-analyze_clause.ensures.all_seen c.in_ok-analyze_clause.ensures.grown in
+    let index : c.index.result.now ≡ top.0 =
+    top.1.only c.index.result.now
+    (subst (Contains c.analyze_clause.new.analyzed.items) (sym c.index.ensures)
+    (Contains-get_or c.analyze_clause.new.analyzed.items 0 c.index.result.now
+    (omega (arith, top.1.has.1)))) in
     subst (λ n. n < length c.args.trail.now.entries) (sym index) top.1.within
 
 pub returns-then-is_decision-clause-part : goal.returns-then-is_decision-clause-part
 returns-then-is_decision-clause-part c =
-    let top = top_of c.args.trail.now c.args.lit c.args.met.now.items c.meet.new.met.items c.in_ok-meet.field-0 c.meet.ensures.trail c.requires.empty c.requires.refuted c.in_ok-meet.ensures.meets c.in_ok-meet.ensures.grown in
-    let index : c.index.result.now ≡ top.0 = top.1.only c.index.result.now (subst (Contains c.meet.new.met.items) (sym c.index.ensures) (Contains-get_or c.meet.new.met.items 0 c.index.result.now (omega (arith, top.1.has.1)))) in
+    let top = top_of c.args.trail.now c.args.lit c.args.analyzed.now.items
+    c.analyze_clause.new.analyzed.items c.in_ok-analyze_clause.field-0
+    c.analyze_clause.ensures.trail c.requires.empty c.requires.refuted
+    c.in_ok-analyze_clause.ensures.all_seen c.in_ok-analyze_clause.ensures.grown in
+    let index : c.index.result.now ≡ top.0 =
+    top.1.only c.index.result.now
+    (subst (Contains c.analyze_clause.new.analyzed.items) (sym c.index.ensures)
+    (Contains-get_or c.analyze_clause.new.analyzed.items 0 c.index.result.now
+    (omega (arith, top.1.has.1)))) in
     let decision : IsDecision c.args.trail.now.entries (opposite c.args.lit) =
-    decided c.args.trail.now c.args.lit top.0 c.meet.new.met.items top.1
+    decided c.args.trail.now c.args.lit top.0 c.analyze_clause.new.analyzed.items top.1
     (subst (λ n. (0 < level_at c.args.trail.now.entries n) × ((entry_at c.args.trail.now.entries n).reason ≡ None)) index (c.is_decision.ensures.0 c.if-is_decision.true)) in
     ok_weaker c.excluded_middle.result (λ answer. IsExcludedOf c.args.lit answer.0 answer.1)
     (λ answer. IsPart c.args.trail.now.entries c.args.lit answer.0)
@@ -39,10 +56,17 @@ returns-then-is_decision-clause-part c =
 
 pub returns-then-is_decision-clause-negation : goal.returns-then-is_decision-clause-negation
 returns-then-is_decision-clause-negation c =
-    let top = top_of c.args.trail.now c.args.lit c.args.met.now.items c.meet.new.met.items c.in_ok-meet.field-0 c.meet.ensures.trail c.requires.empty c.requires.refuted c.in_ok-meet.ensures.meets c.in_ok-meet.ensures.grown in
-    let index : c.index.result.now ≡ top.0 = top.1.only c.index.result.now (subst (Contains c.meet.new.met.items) (sym c.index.ensures) (Contains-get_or c.meet.new.met.items 0 c.index.result.now (omega (arith, top.1.has.1)))) in
+    let top = top_of c.args.trail.now c.args.lit c.args.analyzed.now.items
+    c.analyze_clause.new.analyzed.items c.in_ok-analyze_clause.field-0
+    c.analyze_clause.ensures.trail c.requires.empty c.requires.refuted
+    c.in_ok-analyze_clause.ensures.all_seen c.in_ok-analyze_clause.ensures.grown in
+    let index : c.index.result.now ≡ top.0 =
+    top.1.only c.index.result.now
+    (subst (Contains c.analyze_clause.new.analyzed.items) (sym c.index.ensures)
+    (Contains-get_or c.analyze_clause.new.analyzed.items 0 c.index.result.now
+    (omega (arith, top.1.has.1)))) in
     let decision : IsDecision c.args.trail.now.entries (opposite c.args.lit) =
-    decided c.args.trail.now c.args.lit top.0 c.meet.new.met.items top.1
+    decided c.args.trail.now c.args.lit top.0 c.analyze_clause.new.analyzed.items top.1
     (subst (λ n. (0 < level_at c.args.trail.now.entries n) × ((entry_at c.args.trail.now.entries n).reason ≡ None)) index (c.is_decision.ensures.0 c.if-is_decision.true)) in
     ok_weaker c.excluded_middle.result (λ answer. IsExcludedOf c.args.lit answer.0 answer.1)
     (λ answer. IsNegationOf answer.0 answer.1.clause)
@@ -50,10 +74,17 @@ returns-then-is_decision-clause-negation c =
 
 pub returns-then-is_decision-clause-decided : goal.returns-then-is_decision-clause-decided
 returns-then-is_decision-clause-decided c =
-    let top = top_of c.args.trail.now c.args.lit c.args.met.now.items c.meet.new.met.items c.in_ok-meet.field-0 c.meet.ensures.trail c.requires.empty c.requires.refuted c.in_ok-meet.ensures.meets c.in_ok-meet.ensures.grown in
-    let index : c.index.result.now ≡ top.0 = top.1.only c.index.result.now (subst (Contains c.meet.new.met.items) (sym c.index.ensures) (Contains-get_or c.meet.new.met.items 0 c.index.result.now (omega (arith, top.1.has.1)))) in
+    let top = top_of c.args.trail.now c.args.lit c.args.analyzed.now.items
+    c.analyze_clause.new.analyzed.items c.in_ok-analyze_clause.field-0
+    c.analyze_clause.ensures.trail c.requires.empty c.requires.refuted
+    c.in_ok-analyze_clause.ensures.all_seen c.in_ok-analyze_clause.ensures.grown in
+    let index : c.index.result.now ≡ top.0 =
+    top.1.only c.index.result.now
+    (subst (Contains c.analyze_clause.new.analyzed.items) (sym c.index.ensures)
+    (Contains-get_or c.analyze_clause.new.analyzed.items 0 c.index.result.now
+    (omega (arith, top.1.has.1)))) in
     let decision : IsDecision c.args.trail.now.entries (opposite c.args.lit) =
-    decided c.args.trail.now c.args.lit top.0 c.meet.new.met.items top.1
+    decided c.args.trail.now c.args.lit top.0 c.analyze_clause.new.analyzed.items top.1
     (subst (λ n. (0 < level_at c.args.trail.now.entries n) × ((entry_at c.args.trail.now.entries n).reason ≡ None)) index (c.is_decision.ensures.0 c.if-is_decision.true)) in
     ok_weaker c.excluded_middle.result (λ answer. IsExcludedOf c.args.lit answer.0 answer.1)
     (λ answer. IsDecision c.args.trail.now.entries (opposite c.args.lit) → IsTautology answer.1.clause × (answer.1.hints ≡ []))
@@ -61,28 +92,47 @@ returns-then-is_decision-clause-decided c =
 
 pub returns-then-is_decision-clause-derived : goal.returns-then-is_decision-clause-derived
 returns-then-is_decision-clause-derived c =
-    let top = top_of c.args.trail.now c.args.lit c.args.met.now.items c.meet.new.met.items c.in_ok-meet.field-0 c.meet.ensures.trail c.requires.empty c.requires.refuted c.in_ok-meet.ensures.meets c.in_ok-meet.ensures.grown in
-    let index : c.index.result.now ≡ top.0 = top.1.only c.index.result.now (subst (Contains c.meet.new.met.items) (sym c.index.ensures) (Contains-get_or c.meet.new.met.items 0 c.index.result.now (omega (arith, top.1.has.1)))) in
+    let top = top_of c.args.trail.now c.args.lit c.args.analyzed.now.items
+    c.analyze_clause.new.analyzed.items c.in_ok-analyze_clause.field-0
+    c.analyze_clause.ensures.trail c.requires.empty c.requires.refuted
+    c.in_ok-analyze_clause.ensures.all_seen c.in_ok-analyze_clause.ensures.grown in
+    let index : c.index.result.now ≡ top.0 =
+    top.1.only c.index.result.now
+    (subst (Contains c.analyze_clause.new.analyzed.items) (sym c.index.ensures)
+    (Contains-get_or c.analyze_clause.new.analyzed.items 0 c.index.result.now
+    (omega (arith, top.1.has.1)))) in
     let decision : IsDecision c.args.trail.now.entries (opposite c.args.lit) =
-    decided c.args.trail.now c.args.lit top.0 c.meet.new.met.items top.1
+    decided c.args.trail.now c.args.lit top.0 c.analyze_clause.new.analyzed.items top.1
     (subst (λ n. (0 < level_at c.args.trail.now.entries n) × ((entry_at c.args.trail.now.entries n).reason ≡ None)) index (c.is_decision.ensures.0 c.if-is_decision.true)) in
     ok_weaker c.excluded_middle.result (λ answer. IsExcludedOf c.args.lit answer.0 answer.1)
     (λ answer. (table : Ref → Option Known) → KnowsArena table c.args.arena.now → KnowsUnits table c.args.trail.now.entries c.args.units.now c.args.tags.now → IsRefutedBy table answer.1)
     (λ answer of. λ table _ _. excluded_by c.args.trail.now.entries table c.args.lit answer.0 answer.1 of) c.excluded_middle.ensures
 
-pub make_cut-requires-clause-within : goal.make_cut-requires-clause-within
-make_cut-requires-clause-within c =
-    let top = top_of c.args.trail.now c.args.lit c.args.met.now.items c.meet.new.met.items c.in_ok-meet.field-0 c.meet.ensures.trail c.requires.empty c.requires.refuted c.in_ok-meet.ensures.meets c.in_ok-meet.ensures.grown in
+pub classify-requires-clause-within : goal.classify-requires-clause-within
+classify-requires-clause-within c =
+    let top = top_of c.args.trail.now c.args.lit c.args.analyzed.now.items
+    c.analyze_clause.new.analyzed.items c.in_ok-analyze_clause.field-0
+    c.analyze_clause.ensures.trail c.requires.empty c.requires.refuted
+    c.in_ok-analyze_clause.ensures.all_seen c.in_ok-analyze_clause.ensures.grown in
     λ place has. subst (λ n. n < length c.args.trail.now.entries) (sym (top.1.only place has)) top.1.within
 
 pub part_of-requires : goal.part_of-requires
 part_of-requires c =
-    let top = top_of c.args.trail.now c.args.lit c.args.met.now.items c.meet.new.met.items c.in_ok-meet.field-0 c.meet.ensures.trail c.requires.empty c.requires.refuted c.in_ok-meet.ensures.meets c.in_ok-meet.ensures.grown in
-    let index : c.index.result.now ≡ top.0 = top.1.only c.index.result.now (subst (Contains c.meet.new.met.items) (sym c.index.ensures) (Contains-get_or c.meet.new.met.items 0 c.index.result.now (omega (arith, top.1.has.1)))) in
+    let top = top_of c.args.trail.now c.args.lit c.args.analyzed.now.items
+    c.analyze_clause.new.analyzed.items c.in_ok-analyze_clause.field-0
+    c.analyze_clause.ensures.trail c.requires.empty c.requires.refuted
+    c.in_ok-analyze_clause.ensures.all_seen c.in_ok-analyze_clause.ensures.grown in
+    let index : c.index.result.now ≡ top.0 =
+    top.1.only c.index.result.now
+    (subst (Contains c.analyze_clause.new.analyzed.items) (sym c.index.ensures)
+    (Contains-get_or c.analyze_clause.new.analyzed.items 0 c.index.result.now
+    (omega (arith, top.1.has.1)))) in
     let never : ¬ ((0 < level_at c.args.trail.now.entries top.0) × ((entry_at c.args.trail.now.entries top.0).reason ≡ None)) =
     subst (λ n. ¬ ((0 < level_at c.args.trail.now.entries n) × ((entry_at c.args.trail.now.entries n).reason ≡ None))) index (λ d. true≢false (sym (c.is_decision.ensures.1 d) ∙ c.if-is_decision.false)) in
-    let b : Blamed c.args.trail.now c.args.arena.now c.args.lit top.0 c.meet.new.met.items c.make_cut.new.met.items c.in_ok-parts.parts.kept.items c.in_ok-parts.parts.resolved.items = record {
-      is = c.meet.ensures.trail;
+    let b : Blamed c.args.trail.now c.args.arena.now c.args.lit top.0
+    c.analyze_clause.new.analyzed.items c.classify.new.analyzed.items c.in_ok-parts.parts.kept.items
+    c.in_ok-parts.parts.resolved.items = record {
+      is = c.analyze_clause.ensures.trail;
       founded = c.requires.founded;
       at = top.1;
       forced_or_low = never;
@@ -90,16 +140,27 @@ part_of-requires c =
       sorted = c.in_ok-parts.ensures.ascending;
     } in
     subst (λ (xs : List ℕ). All (λ place. place < length c.args.trail.now.entries) xs) (sym c.deref.ensures.value)
-    (kept_in_trail c.args.trail.now c.args.arena.now c.args.lit top.0 c.meet.new.met.items c.make_cut.new.met.items c.in_ok-parts.parts.kept.items c.in_ok-parts.parts.resolved.items b)
+    (kept_in_trail c.args.trail.now c.args.arena.now c.args.lit top.0
+    c.analyze_clause.new.analyzed.items c.classify.new.analyzed.items c.in_ok-parts.parts.kept.items
+    c.in_ok-parts.parts.resolved.items b)
 
 pub cite_all-requires-clause-clauses : goal.cite_all-requires-clause-clauses
 cite_all-requires-clause-clauses c =
-    let top = top_of c.args.trail.now c.args.lit c.args.met.now.items c.meet.new.met.items c.in_ok-meet.field-0 c.meet.ensures.trail c.requires.empty c.requires.refuted c.in_ok-meet.ensures.meets c.in_ok-meet.ensures.grown in
-    let index : c.index.result.now ≡ top.0 = top.1.only c.index.result.now (subst (Contains c.meet.new.met.items) (sym c.index.ensures) (Contains-get_or c.meet.new.met.items 0 c.index.result.now (omega (arith, top.1.has.1)))) in
+    let top = top_of c.args.trail.now c.args.lit c.args.analyzed.now.items
+    c.analyze_clause.new.analyzed.items c.in_ok-analyze_clause.field-0
+    c.analyze_clause.ensures.trail c.requires.empty c.requires.refuted
+    c.in_ok-analyze_clause.ensures.all_seen c.in_ok-analyze_clause.ensures.grown in
+    let index : c.index.result.now ≡ top.0 =
+    top.1.only c.index.result.now
+    (subst (Contains c.analyze_clause.new.analyzed.items) (sym c.index.ensures)
+    (Contains-get_or c.analyze_clause.new.analyzed.items 0 c.index.result.now
+    (omega (arith, top.1.has.1)))) in
     let never : ¬ ((0 < level_at c.args.trail.now.entries top.0) × ((entry_at c.args.trail.now.entries top.0).reason ≡ None)) =
     subst (λ n. ¬ ((0 < level_at c.args.trail.now.entries n) × ((entry_at c.args.trail.now.entries n).reason ≡ None))) index (λ d. true≢false (sym (c.is_decision.ensures.1 d) ∙ c.if-is_decision.false)) in
-    let b : Blamed c.args.trail.now c.args.arena.now c.args.lit top.0 c.meet.new.met.items c.make_cut.new.met.items c.in_ok-parts.parts.kept.items c.in_ok-parts.parts.resolved.items = record {
-      is = c.meet.ensures.trail;
+    let b : Blamed c.args.trail.now c.args.arena.now c.args.lit top.0
+    c.analyze_clause.new.analyzed.items c.classify.new.analyzed.items c.in_ok-parts.parts.kept.items
+    c.in_ok-parts.parts.resolved.items = record {
+      is = c.analyze_clause.ensures.trail;
       founded = c.requires.founded;
       at = top.1;
       forced_or_low = never;
@@ -107,16 +168,27 @@ cite_all-requires-clause-clauses c =
       sorted = c.in_ok-parts.ensures.ascending;
     } in
     subst (All (HasClause c.args.arena.now c.args.trail.now.entries)) (sym c.deref-2.ensures.value)
-    (clauses_there c.args.trail.now c.args.arena.now c.args.lit top.0 c.meet.new.met.items c.make_cut.new.met.items c.in_ok-parts.parts.kept.items c.in_ok-parts.parts.resolved.items b)
+    (clauses_there c.args.trail.now c.args.arena.now c.args.lit top.0
+    c.analyze_clause.new.analyzed.items c.classify.new.analyzed.items c.in_ok-parts.parts.kept.items
+    c.in_ok-parts.parts.resolved.items b)
 
 pub returns-clause-part : goal.returns-clause-part
 returns-clause-part c =
-    let top = top_of c.args.trail.now c.args.lit c.args.met.now.items c.meet.new.met.items c.in_ok-meet.field-0 c.meet.ensures.trail c.requires.empty c.requires.refuted c.in_ok-meet.ensures.meets c.in_ok-meet.ensures.grown in
-    let index : c.index.result.now ≡ top.0 = top.1.only c.index.result.now (subst (Contains c.meet.new.met.items) (sym c.index.ensures) (Contains-get_or c.meet.new.met.items 0 c.index.result.now (omega (arith, top.1.has.1)))) in
+    let top = top_of c.args.trail.now c.args.lit c.args.analyzed.now.items
+    c.analyze_clause.new.analyzed.items c.in_ok-analyze_clause.field-0
+    c.analyze_clause.ensures.trail c.requires.empty c.requires.refuted
+    c.in_ok-analyze_clause.ensures.all_seen c.in_ok-analyze_clause.ensures.grown in
+    let index : c.index.result.now ≡ top.0 =
+    top.1.only c.index.result.now
+    (subst (Contains c.analyze_clause.new.analyzed.items) (sym c.index.ensures)
+    (Contains-get_or c.analyze_clause.new.analyzed.items 0 c.index.result.now
+    (omega (arith, top.1.has.1)))) in
     let never : ¬ ((0 < level_at c.args.trail.now.entries top.0) × ((entry_at c.args.trail.now.entries top.0).reason ≡ None)) =
     subst (λ n. ¬ ((0 < level_at c.args.trail.now.entries n) × ((entry_at c.args.trail.now.entries n).reason ≡ None))) index (λ d. true≢false (sym (c.is_decision.ensures.1 d) ∙ c.if-is_decision.false)) in
-    let b : Blamed c.args.trail.now c.args.arena.now c.args.lit top.0 c.meet.new.met.items c.make_cut.new.met.items c.in_ok-parts.parts.kept.items c.in_ok-parts.parts.resolved.items = record {
-      is = c.meet.ensures.trail;
+    let b : Blamed c.args.trail.now c.args.arena.now c.args.lit top.0
+    c.analyze_clause.new.analyzed.items c.classify.new.analyzed.items c.in_ok-parts.parts.kept.items
+    c.in_ok-parts.parts.resolved.items = record {
+      is = c.analyze_clause.ensures.trail;
       founded = c.requires.founded;
       at = top.1;
       forced_or_low = never;
@@ -125,24 +197,44 @@ returns-clause-part c =
     } in
     let members : IsPartOf c.in_ok-part.part c.args.lit c.args.trail.now.entries c.in_ok-parts.parts.kept.items =
     subst (IsPartOf c.in_ok-part.part c.args.lit c.args.trail.now.entries) c.deref.ensures.value c.in_ok-part.ensures in
-    is_part c.args.trail.now c.args.arena.now c.args.lit top.0 c.meet.new.met.items c.make_cut.new.met.items c.in_ok-parts.parts.kept.items c.in_ok-parts.parts.resolved.items c.in_ok-part.part b members
+    is_part c.args.trail.now c.args.arena.now c.args.lit top.0 c.analyze_clause.new.analyzed.items
+    c.classify.new.analyzed.items c.in_ok-parts.parts.kept.items c.in_ok-parts.parts.resolved.items
+    c.in_ok-part.part b members
 
 pub returns-clause-decided : goal.returns-clause-decided
 returns-clause-decided c =
-    let top = top_of c.args.trail.now c.args.lit c.args.met.now.items c.meet.new.met.items c.in_ok-meet.field-0 c.meet.ensures.trail c.requires.empty c.requires.refuted c.in_ok-meet.ensures.meets c.in_ok-meet.ensures.grown in
-    let index : c.index.result.now ≡ top.0 = top.1.only c.index.result.now (subst (Contains c.meet.new.met.items) (sym c.index.ensures) (Contains-get_or c.meet.new.met.items 0 c.index.result.now (omega (arith, top.1.has.1)))) in
+    let top = top_of c.args.trail.now c.args.lit c.args.analyzed.now.items
+    c.analyze_clause.new.analyzed.items c.in_ok-analyze_clause.field-0
+    c.analyze_clause.ensures.trail c.requires.empty c.requires.refuted
+    c.in_ok-analyze_clause.ensures.all_seen c.in_ok-analyze_clause.ensures.grown in
+    let index : c.index.result.now ≡ top.0 =
+    top.1.only c.index.result.now
+    (subst (Contains c.analyze_clause.new.analyzed.items) (sym c.index.ensures)
+    (Contains-get_or c.analyze_clause.new.analyzed.items 0 c.index.result.now
+    (omega (arith, top.1.has.1)))) in
     let never : ¬ ((0 < level_at c.args.trail.now.entries top.0) × ((entry_at c.args.trail.now.entries top.0).reason ≡ None)) =
     subst (λ n. ¬ ((0 < level_at c.args.trail.now.entries n) × ((entry_at c.args.trail.now.entries n).reason ≡ None))) index (λ d. true≢false (sym (c.is_decision.ensures.1 d) ∙ c.if-is_decision.false)) in
-    λ decision. absurd (not_decided c.args.trail.now c.args.lit top.0 c.meet.new.met.items c.meet.ensures.trail top.1 never decision)
+    λ decision. absurd
+    (not_decided c.args.trail.now c.args.lit top.0 c.analyze_clause.new.analyzed.items
+    c.analyze_clause.ensures.trail top.1 never decision)
 
 pub returns-clause-derived : goal.returns-clause-derived
 returns-clause-derived c = λ table arena known.
-    let top = top_of c.args.trail.now c.args.lit c.args.met.now.items c.meet.new.met.items c.in_ok-meet.field-0 c.meet.ensures.trail c.requires.empty c.requires.refuted c.in_ok-meet.ensures.meets c.in_ok-meet.ensures.grown in
-    let index : c.index.result.now ≡ top.0 = top.1.only c.index.result.now (subst (Contains c.meet.new.met.items) (sym c.index.ensures) (Contains-get_or c.meet.new.met.items 0 c.index.result.now (omega (arith, top.1.has.1)))) in
+    let top = top_of c.args.trail.now c.args.lit c.args.analyzed.now.items
+    c.analyze_clause.new.analyzed.items c.in_ok-analyze_clause.field-0
+    c.analyze_clause.ensures.trail c.requires.empty c.requires.refuted
+    c.in_ok-analyze_clause.ensures.all_seen c.in_ok-analyze_clause.ensures.grown in
+    let index : c.index.result.now ≡ top.0 =
+    top.1.only c.index.result.now
+    (subst (Contains c.analyze_clause.new.analyzed.items) (sym c.index.ensures)
+    (Contains-get_or c.analyze_clause.new.analyzed.items 0 c.index.result.now
+    (omega (arith, top.1.has.1)))) in
     let never : ¬ ((0 < level_at c.args.trail.now.entries top.0) × ((entry_at c.args.trail.now.entries top.0).reason ≡ None)) =
     subst (λ n. ¬ ((0 < level_at c.args.trail.now.entries n) × ((entry_at c.args.trail.now.entries n).reason ≡ None))) index (λ d. true≢false (sym (c.is_decision.ensures.1 d) ∙ c.if-is_decision.false)) in
-    let b : Blamed c.args.trail.now c.args.arena.now c.args.lit top.0 c.meet.new.met.items c.make_cut.new.met.items c.in_ok-parts.parts.kept.items c.in_ok-parts.parts.resolved.items = record {
-      is = c.meet.ensures.trail;
+    let b : Blamed c.args.trail.now c.args.arena.now c.args.lit top.0
+    c.analyze_clause.new.analyzed.items c.classify.new.analyzed.items c.in_ok-parts.parts.kept.items
+    c.in_ok-parts.parts.resolved.items = record {
+      is = c.analyze_clause.ensures.trail;
       founded = c.requires.founded;
       at = top.1;
       forced_or_low = never;
@@ -151,7 +243,9 @@ returns-clause-derived c = λ table arena known.
     } in
     let members : IsPartOf c.in_ok-part.part c.args.lit c.args.trail.now.entries c.in_ok-parts.parts.kept.items =
     subst (IsPartOf c.in_ok-part.part c.args.lit c.args.trail.now.entries) c.deref.ensures.value c.in_ok-part.ensures in
-    refuted_by table c.args.trail.now c.args.arena.now c.args.units.now c.args.tags.now c.args.lit top.0 c.meet.new.met.items c.make_cut.new.met.items c.in_ok-parts.parts.kept.items c.in_ok-parts.parts.resolved.items c.in_ok-part.part
+    refuted_by table c.args.trail.now c.args.arena.now c.args.units.now c.args.tags.now c.args.lit
+    top.0 c.analyze_clause.new.analyzed.items c.classify.new.analyzed.items
+    c.in_ok-parts.parts.kept.items c.in_ok-parts.parts.resolved.items c.in_ok-part.part
     (record { clause = c.in_ok-clause.clause; hints = c.of.result; tag = c.in_ok-cited.cited.tag }) arena known b members c.in_ok-clause.ensures.members
     (c.of.ensures ∙ c.in_ok-cited.ensures.names ∙ ap (map (name_for c.args.arena.now c.args.trail.now.entries c.args.units.now)) c.deref-2.ensures.value)
     (c.in_ok-cited.ensures.tag ∙ ap (λ xs. greatest (map (tag_for c.args.arena.now c.args.trail.now.entries c.args.tags.now) xs)) c.deref-2.ensures.value)
