@@ -10,7 +10,7 @@ use Rattle.entry_core.specs.Journal.{segments, jobs}
 use Rattle.entry_core.proofs.LongerJournals.{segments-append, inputs_kept}
 use Rattle.board_core.specs.State.{State, entered}
 use Rattle.board_core.proofs.Verdicts.{entry_by}
-use Rattle.attempt_core.specs.Fits.{Fits}
+use Rattle.worker_loop.specs.Fits.{Fits}
 use Rattle.worker_loop.specs.Working.{IsOfAttempt, HasAttemptsMore}
 use Rattle.worker_loop.specs.Attempts.{HasEnded}
 

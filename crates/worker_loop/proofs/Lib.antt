@@ -4,3 +4,10 @@ pub mod Ended
 pub mod Rested
 pub mod Left
 pub mod Finished
+pub mod Earlier
+pub mod Traced
+pub mod Budget
+pub mod Spent
+pub mod Fitting
+pub mod Copies
+pub mod Keeping

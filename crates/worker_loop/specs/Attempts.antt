@@ -10,7 +10,7 @@ use Rattle.entry_core.specs.Settled.{settled}
 use Rattle.board_core.specs.State.{State, entered}
 use Rattle.board_core.specs.Replies.{IsJob, IsOwn, job_at}
 use Rattle.search_core.specs.Solver.{Solver}
-use Rattle.attempt_core.specs.Fits.{Fits}
+use Rattle.worker_loop.specs.Fits.{Fits}
 use Rattle.worker_loop.specs.Working.{HasAttemptsMore, IsResting}
 
 -- an open attempt of the caller at this job of the board

@@ -5,9 +5,16 @@
 //! both back so. This crate knows no thread, no lock, and nothing of how a job is solved.
 #![tactic(auto)]
 
-mod ends;
 #[cfg(test)]
-mod tests;
+mod attempt_tests;
+mod attempts;
+mod ending;
+mod ends;
+mod lessons;
+mod loading;
+mod rounds;
 mod working;
+#[cfg(test)]
+mod working_tests;
 
 pub use working::work_alone;

@@ -5,11 +5,11 @@ ghost use Rattle.entry_core.specs.Legal.{IsWorker};
 ghost use Rattle.entry_core.specs.Schedule.{IsWaiting};
 ghost use Rattle.entry_core.specs.Settled.{settled};
 ghost use Rattle.board_core.specs.Replies.{IsJob};
-ghost use Rattle.attempt_core.specs.Fits.{Fits};
+ghost use Rattle.worker_loop.specs.Fits.{Fits};
 ghost use Rattle.worker_loop.specs.Working.{HasAttemptsMore, IsResting};
 ghost use Rattle.worker_loop.specs.Attempts.{left_on};
 
-use crate::ends::make_attempt;
+use crate::ending::make_attempt;
 use board_core::{Board, Task};
 use session::Session;
 use std::alloc::{AllocError, Global};

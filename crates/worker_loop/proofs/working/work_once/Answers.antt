@@ -3,7 +3,7 @@ use Rattle.std.proofs.Common.{◌≡◌, ℕ, sym, subst, rules}
 use Rattle.entry_core.specs.Schedule.{IsWaiting}
 use Rattle.board_core.specs.State.{State}
 use Rattle.board_core.specs.Replies.{IsBegun, IsTask}
-use Rattle.attempt_core.specs.Fits.{Fits}
+use Rattle.worker_loop.specs.Fits.{Fits}
 use Rattle.worker_loop.specs.Working.{IsResting, HasAttemptsMore}
 use Rattle.worker_loop.proofs.Rested.{begun_at, rested}
 use Rattle.worker_loop.proofs.Left.{left_fewer}
