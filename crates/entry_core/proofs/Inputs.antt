@@ -1,10 +1,13 @@
 -- The input clauses of one job after another.
-use Rattle.std.proofs.Common.{◌≡◌, ◌∙◌, ℕ, zero, suc, ◌+◌, ◌-◌, ◌≤◌, Bool, true, false, cond, Some, None, List, [], ◌∷◌, ◌++◌, map, length, refl, ap, subst, sym, arith, append_assoc, add-one}
-use Rattle.std.specs.Prelude.{◌==◌, filter, slice_get, nat_le}
+use Rattle.std.proofs.Common.{◌≡◌, ◌∙◌, ℕ, zero, suc, ◌+◌, ◌-◌, ◌<◌, ◌≤◌, Bool, true, false, cond, Some, None, List, [], ◌∷◌, ◌++◌, map, length, refl, ap, subst, sym, inl, inr, arith, append_assoc, add-one}
+use Rattle.std.specs.Prelude.{◌⊎◌, ◌==◌, filter, slice_get, nat_le, Contains}
 use Rattle.std.proofs.lemmas.Bool.Decides.{nat_tests}
 use Rattle.std.proofs.lemmas.List.Elements.{filter-append}
 use Rattle.std.proofs.lemmas.List.{append-nil}
-use Rattle.trace_core.specs.Known.{Known, item_at}
+use Rattle.sat_base.proofs.Members.{Contains-filter}
+use Rattle.trace_core.specs.Known.{Known, item_at, AgreeUpTo}
+use Rattle.trace_core.proofs.Items.{item_at-append_cases}
+use Rattle.trace_core.proofs.Soundness.{nothing_in}
 use Rattle.entry_core.specs.declared.segments.Segment.{Segment}
 use Rattle.entry_core.specs.declared.entries.Entry.{Entry}
 use Rattle.entry_core.specs.Journal.{segments, jobs, tagged_from, inputs, inputs_of}
@@ -88,3 +91,57 @@ all_up_to bound first (segment ∷ rest) le =
 -- the last job has all inputs
 pub inputs_of_all : (journal : List Entry) → inputs_of journal (jobs journal) ≡ inputs journal
 inputs_of_all journal = all_up_to (jobs journal) 1 (segments journal) (omega arith)
+
+-- The inputs up to a bound are a front of these, behind which no input has a tag up to it.
+pub record IsFrontUpTo (bound : ℕ) (all : List Known) : Type 0 where
+  pub later : List Known
+  pub whole : all ≡ up_to bound all ++ later
+  pub above : up_to bound later ≡ []
+
+front_up_to : (bound first : ℕ) (all : List Segment) → IsFrontUpTo bound (tagged_from first all)
+front_up_to bound first [] = record { later = []; whole = refl; above = refl }
+front_up_to bound first (segment ∷ rest) = by_bound (front_up_to bound (suc first) rest) (nat_le first bound) refl
+  where
+    own : List Known
+    own = tagged first segment.clauses
+
+    by_bound : IsFrontUpTo bound (tagged_from (suc first) rest) → (b : Bool) → nat_le first bound ≡ b
+        → IsFrontUpTo bound (tagged_from first (segment ∷ rest))
+    by_bound front true is = record {
+      later = front.later;
+      whole = ap (λ xs. own ++ xs) front.whole
+          ∙ sym (append_assoc own (up_to bound (tagged_from (suc first) rest)) front.later)
+          ∙ ap (λ xs. xs ++ front.later) (sym (own_or_later bound first segment rest
+          ∙ ap (λ xs. xs ++ up_to bound (tagged_from (suc first) rest))
+          (all_tagged bound first segment.clauses (let le : first ≤ bound = grind (arith, nat_tests) in le))));
+      above = front.above;
+    }
+    by_bound front false is =
+        let none : up_to bound (tagged_from first (segment ∷ rest)) ≡ [] =
+        none_later bound first (segment ∷ rest) (let lt : bound < first = grind (arith, nat_tests) in lt) in
+        record {
+          later = tagged_from first (segment ∷ rest);
+          whole = ap (λ xs. xs ++ tagged_from first (segment ∷ rest)) (sym none);
+          above = none;
+        }
+
+-- The inputs of a job are a front of all inputs.
+pub inputs_of_front : (journal : List Entry) (job : ℕ) → (later : List Known) × (inputs journal ≡ inputs_of journal job ++ later)
+inputs_of_front journal job = let front = front_up_to job 1 (segments journal) in (front.later, front.whole)
+
+-- The inputs of a job agree with all inputs up to the job's number.
+pub inputs_of_agree : (journal : List Entry) (job : ℕ) → AgreeUpTo job (inputs journal) (inputs_of journal job)
+inputs_of_agree journal job number one is low =
+    by_side (item_at-append_cases (inputs_of journal job) front.later number one
+    (subst (λ all. item_at all number ≡ Some one) front.whole is))
+  where
+    front : IsFrontUpTo job (inputs journal)
+    front = front_up_to job 1 (segments journal)
+
+    not_later : Contains front.later one → ⊥
+    not_later has = nothing_in one (subst (λ xs. Contains xs one) front.above
+        (Contains-filter (λ (input : Known). nat_le input.tag job) front.later one has (grind (arith, nat_tests))))
+
+    by_side : (item_at (inputs_of journal job) number ≡ Some one) ⊎ Contains front.later one → item_at (inputs_of journal job) number ≡ Some one
+    by_side (inl before) = before
+    by_side (inr later) = absurd (not_later later)

@@ -1,13 +1,14 @@
 -- Laws of legal journals.
-use Rattle.std.specs.Prelude.{◌≡◌, ℕ, ◌^◌, ◌≤◌, Some, List, ◌++◌, Contains}
-use Rattle.sat_base.specs.Lit.{variables}
+use Rattle.std.specs.Prelude.{◌≡◌, ℕ, ◌^◌, ◌≤◌, Some, List, [], ◌∷◌, ◌++◌, length, All, Contains}
+use Rattle.sat_base.specs.Lit.{IsTautology, greatest_of, greatest_of_all, variables}
 use Rattle.sat_base.specs.Truth.{Entails}
+use Rattle.trace_core.specs.Trace.{AreOkPackets}
 use Rattle.trace_core.specs.declared.derivation.Step.{Step}
 use Rattle.entry_core.specs.declared.answers.Verdict.{Verdict}
 use Rattle.entry_core.specs.declared.answers.Verdict.TheVariants as verdict
 use Rattle.entry_core.specs.declared.entries.Entry.{Entry}
 use Rattle.entry_core.specs.declared.rules.Rules.{Rules}
-use Rattle.entry_core.specs.Journal.{jobs, inputs_of, clauses_of, cube_of, packets}
+use Rattle.entry_core.specs.Journal.{jobs, inputs, inputs_of, clauses_of, cube_of, packets}
 use Rattle.entry_core.specs.Settled.{settled}
 use Rattle.entry_core.specs.Legal.{AreWithinLimits, IsLegal}
 use Rattle.entry_core.specs.Causes.{HasCause}
@@ -16,6 +17,28 @@ use Rattle.entry_core.specs.Causes.{HasCause}
 abbrev pub SharedStepsFollow : Type 0
 SharedStepsFollow = (rules : Rules) (journal : List Entry) (packet : List Step) (step : Step) → IsLegal rules journal
     → Contains (packets journal) packet → Contains packet step → Entails (clauses_of journal step.tag) step.clause
+
+-- The shared packets are ok one after the other over the input clauses.
+abbrev pub PacketsAreOk : Type 0
+PacketsAreOk = (rules : Rules) (journal : List Entry) → IsLegal rules journal
+    → AreOkPackets (inputs journal) [] (packets journal)
+
+-- The last step of a packet proves a short clause, no tautology, whose variables are those of the input clauses up to its tag.
+-- That tag is the number of a job, and no other one in the packet is above it.
+pub record IsBounded (journal : List Entry) (packet : List Step) : Type 0 where
+  pub front : List Step
+  pub last : Step
+  pub ends : packet ≡ front ++ last ∷ []
+  pub added : last.tag ≤ jobs journal
+  pub within : greatest_of last.clause ≤ greatest_of_all (clauses_of journal last.tag)
+  pub proper : ¬ IsTautology last.clause
+  pub short : length last.clause ≤ 8
+  pub tags : All (λ step. step.tag ≤ last.tag) packet
+
+-- Each shared packet is bounded.
+abbrev pub PacketsAreBounded : Type 0
+PacketsAreBounded = (rules : Rules) (journal : List Entry) (packet : List Step) → IsLegal rules journal
+    → Contains (packets journal) packet → IsBounded journal packet
 
 -- what the first journal says, the second one says too
 pub record Keeps (rules : Rules) (journal longer : List Entry) : Type 0 where

@@ -1,10 +1,21 @@
 //! Laws over the definitions alone, each as the contract of a function that does nothing.
 
-ghost use Rattle.entry_core.specs.Law.{LargeBudgetsAnswer, LongerJournalKeeps, SharedStepsFollow, VerdictsHaveCauses};
+ghost use Rattle.entry_core.specs.Law.{LargeBudgetsAnswer, LongerJournalKeeps, PacketsAreBounded, PacketsAreOk, SharedStepsFollow, VerdictsHaveCauses};
 
 /// In a legal journal every step of a shared packet follows from the input clauses up to its tag.
 pub fn shared_steps_follow()
     ensures { SharedStepsFollow }
+{}
+
+/// In a legal journal the shared packets are ok, one after the other, over the input clauses.
+pub fn packets_are_ok()
+    ensures { PacketsAreOk }
+{}
+
+/// In a legal journal the last clause of each shared packet has at most 8 literals and is no tautology, its tag is at most the number
+/// of jobs, and its variables are at most the greatest one of the input clauses up to its tag.
+pub fn packets_are_bounded()
+    ensures { PacketsAreBounded }
 {}
 
 /// A longer journal keeps the jobs, the database and the verdicts.

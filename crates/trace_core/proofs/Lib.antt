@@ -1,3 +1,5 @@
+pub mod Items
+pub mod Elsewhere
 pub mod Soundness
 pub mod BlockLemmas
 pub mod MarkLemmas

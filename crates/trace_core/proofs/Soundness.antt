@@ -1,6 +1,6 @@
 -- What ok steps prove is entailed.
-use Rattle.std.proofs.Common.{◌≡◌, ◌∙◌, ℕ, zero, suc, ◌-◌, ◌≤◌, List, [], ◌∷◌, ◌++◌, map, Bool, true, false, not, Option, Some, None, cond, refl, ap, subst, sym, inl, inr, arith}
-use Rattle.std.specs.Prelude.{IsTrue, IsSome, Contains, ◌⊎◌, ◌==◌, slice_get, nat_le, option_and_then}
+use Rattle.std.proofs.Common.{◌≡◌, ◌∙◌, ℕ, zero, suc, ◌≤◌, List, [], ◌∷◌, ◌++◌, map, Bool, true, false, not, Option, Some, None, cond, refl, ap, subst, sym, inl, inr, arith}
+use Rattle.std.specs.Prelude.{IsTrue, IsSome, Contains, ◌⊎◌, ◌==◌, nat_le, option_and_then}
 use Rattle.std.specs.List.{filter}
 use Rattle.std.proofs.lemmas.Bool.{both_ways, and_parts, cases_Bool, cases_eq}
 use Rattle.std.proofs.lemmas.Bool.Decides.{nat_tests}
@@ -17,6 +17,7 @@ use Rattle.trace_core.specs.Propagation.{IsFalsified, IsUnit, ReachesConflict, I
 use Rattle.trace_core.specs.Trace.{IsOkStep, greatest, known_of, AreOkSteps}
 use Rattle.trace_core.specs.Law.{OkStepStaysOk, StepIsSound, ProofIsSound, TautologyHolds, clauses_up_to, TagBoundsInputs, TraceIsSound}
 use Rattle.trace_core.specs.declared.derivation.Step.{Step}
+pub use Rattle.trace_core.proofs.Items.{item_at-contains}
 
 -- a true literal isn't false
 not_both : (values : List Bool) (lit : ℕ) → IsTrue (lit_true values lit) → IsTrue (lit_true values (opposite lit)) → ⊥
@@ -108,18 +109,40 @@ same_over f g (hint ∷ hints) same =
     let rest : map f hints ≡ map g hints = same_over f g hints (λ h has. same h (Contains-there hint h hints has)) in
     cc
 
-pub ok_step_stays_ok : OkStepStaysOk
-ok_step_stays_ok table more step keeps ok = record {
-  all_known = All-from_members (λ hint. IsSome (more hint)) step.hints (λ hint has. subst IsSome (agree hint has) (known_here hint has));
-  proved = subst (λ hinted. IsProved hinted step.clause) (same_over (λ hint. clause_of (table hint)) (λ hint. clause_of (more hint)) step.hints (λ hint has. ap clause_of (agree hint has))) ok.proved;
-  exact_tag = ok.exact_tag ∙ ap greatest (same_over (λ hint. tag_of (table hint)) (λ hint. tag_of (more hint)) step.hints (λ hint has. ap tag_of (agree hint has)));
+-- The tag of what a hint of an ok step names is at most the step's.
+pub hint_tag_within : (table : Ref → Option Known) (step : Step) (hint : Ref) (named : Known) → IsOkStep table step
+    → Contains step.hints hint → table hint ≡ Some named → named.tag ≤ step.tag
+hint_tag_within table step hint named ok has is =
+    subst (λ bound. named.tag ≤ bound) (sym ok.exact_tag)
+    (subst (λ tag. tag ≤ greatest (map (λ h. tag_of (table h)) step.hints)) (ap tag_of is)
+    (at_most_greatest (map (λ h. tag_of (table h)) step.hints) (tag_of (table hint))
+    (Contains-map (λ h. tag_of (table h)) step.hints hint has)))
+
+pub stays_ok_up_to_tag : OkStepStaysOk
+stays_ok_up_to_tag table more step keeps ok = record {
+  all_known = All-from_members (λ hint. IsSome (more hint)) step.hints
+      (λ hint has. subst IsSome (agree hint has) (known_here hint has));
+  proved = subst (λ hinted. IsProved hinted step.clause)
+      (same_over (λ hint. clause_of (table hint)) (λ hint. clause_of (more hint)) step.hints
+      (λ hint has. ap clause_of (agree hint has))) ok.proved;
+  exact_tag = ok.exact_tag
+      ∙ ap greatest (same_over (λ hint. tag_of (table hint)) (λ hint. tag_of (more hint)) step.hints
+      (λ hint has. ap tag_of (agree hint has)));
 }
   where
     known_here : (hint : Ref) → Contains step.hints hint → IsSome (table hint)
     known_here hint has = All-contains (λ h. IsSome (table h)) step.hints hint ok.all_known has
 
     agree : (hint : Ref) → Contains step.hints hint → table hint ≡ more hint
-    agree hint has = let named = named_of (table hint) (known_here hint has) in named.1 ∙ sym (keeps hint named.0 named.1)
+    agree hint has =
+        let named = named_of (table hint) (known_here hint has) in
+        named.1 ∙ sym (keeps hint named.0 (hint_tag_within table step hint named.0 ok has named.1) named.1)
+
+-- An ok step stays ok where more clauses are known.
+pub ok_step_stays_ok : (table more : Ref → Option Known) (step : Step)
+    → ((name : Ref) (named : Known) → table name ≡ Some named → more name ≡ Some named)
+    → IsOkStep table step → IsOkStep more step
+ok_step_stays_ok table more step keeps ok = stays_ok_up_to_tag table more step (λ name named low is. keeps name named is) ok
 
 -- what each known clause follows from, the clause of an ok step follows from
 through_hints : (clauses : List (List ℕ)) (table : Ref → Option Known) (step : Step) → IsOkStep table step
@@ -166,38 +189,10 @@ pub tag_bounds_inputs : TagBoundsInputs
 tag_bounds_inputs inputs table step each ok =
     through_hints (clauses_up_to inputs step.tag) table step ok
     (λ hint named has is. up_to_grows inputs named.tag step.tag named.clause
-    (subst (λ bound. named.tag ≤ bound) (sym ok.exact_tag)
-    (subst (λ tag. tag ≤ greatest (map (λ h. tag_of (table h)) step.hints)) (ap tag_of is)
-    (at_most_greatest (map (λ h. tag_of (table h)) step.hints) (tag_of (table hint)) (Contains-map (λ h. tag_of (table h)) step.hints hint has))))
-    (each hint named is))
+    (hint_tag_within table step hint named ok has is) (each hint named is))
 
--- an item of a list with one more at its end
-slice_get-push : {X : Type 0} (xs : List X) (y : X) (i : ℕ) (z : X) → slice_get (xs ++ y ∷ []) i ≡ Some z → (slice_get xs i ≡ Some z) ⊎ (y ≡ z)
-slice_get-push [] y zero z is = inr (cc)
-slice_get-push [] y (suc i) z is = absurd (cc)
-slice_get-push (x ∷ xs) y zero z is = inl is
-slice_get-push (x ∷ xs) y (suc i) z is = slice_get-push xs y i z is
-
-pub item_at-push : {X : Type 0} (xs : List X) (y : X) (place : ℕ) (z : X) → item_at (xs ++ y ∷ []) place ≡ Some z → (item_at xs place ≡ Some z) ⊎ (y ≡ z)
-item_at-push xs y place z = guarded (place == 0)
-  where
-    guarded : (b : Bool) → cond b None (slice_get (xs ++ y ∷ []) (place - 1)) ≡ Some z → (cond b None (slice_get xs (place - 1)) ≡ Some z) ⊎ (y ≡ z)
-    guarded true is = inl is
-    guarded false is = slice_get-push xs y (place - 1) z is
-
-slice_get-contains : {X : Type 0} (xs : List X) (i : ℕ) (x : X) → slice_get xs i ≡ Some x → Contains xs x
-slice_get-contains [] i x is = absurd (cc)
-slice_get-contains (y ∷ xs) zero x is = let same : y ≡ x = cc in subst (Contains (y ∷ xs)) same (Contains-here y xs)
-slice_get-contains (y ∷ xs) (suc i) x is = Contains-there y x xs (slice_get-contains xs i x is)
-
-pub item_at-contains : {X : Type 0} (xs : List X) (place : ℕ) (x : X) → item_at xs place ≡ Some x → Contains xs x
-item_at-contains xs place x = guarded (place == 0)
-  where
-    guarded : (b : Bool) → cond b None (slice_get xs (place - 1)) ≡ Some x → Contains xs x
-    guarded true is = absurd (cc)
-    guarded false is = slice_get-contains xs (place - 1) x is
-
-nothing_in : {X : Type 0} (x : X) → Contains [] x → ⊥
+-- no list of none has an item
+pub nothing_in : {X : Type 0} (x : X) → Contains [] x → ⊥
 nothing_in x (k, lt, is) = omega arith
 
 pub nothing_shared : (packet step : ℕ) (named : Known) → option_and_then (λ (steps : List Known). item_at steps step) (item_at [] packet) ≡ Some named → ⊥

@@ -1,5 +1,5 @@
 -- Laws of ok steps: what they prove is entailed.
-use Rattle.std.specs.Prelude.{ℕ, nat_le, Option, Some, ◌≡◌, List, [], map, filter}
+use Rattle.std.specs.Prelude.{ℕ, nat_le, ◌≤◌, Option, Some, ◌≡◌, List, [], map, filter}
 use Rattle.sat_base.specs.Lit.{opposite, IsTautology}
 use Rattle.sat_base.specs.Truth.{Entails}
 use Rattle.sat_base.specs.declared.origins.Ref.{Ref}
@@ -16,9 +16,10 @@ StepIsSound = (table : Ref → Option Known) (step : Step) → IsOkStep table st
 abbrev pub ProofIsSound : Type 0
 ProofIsSound = (hinted : List (List ℕ)) (clause : List ℕ) → IsProved hinted clause → Entails hinted clause
 
--- An ok step stays ok where more clauses are known.
+-- An ok step stays ok over another table that names, of the clauses up to the step's tag, at least the same ones.
 abbrev pub OkStepStaysOk : Type 0
-OkStepStaysOk = (table more : Ref → Option Known) (step : Step) → ((name : Ref) (named : Known) → table name ≡ Some named → more name ≡ Some named)
+OkStepStaysOk = (table more : Ref → Option Known) (step : Step)
+    → ((name : Ref) (named : Known) → named.tag ≤ step.tag → table name ≡ Some named → more name ≡ Some named)
     → IsOkStep table step → IsOkStep more step
 
 -- A tautology follows from nothing.

@@ -12,7 +12,7 @@ pub fn step_is_sound()
     ensures { StepIsSound }
 {}
 
-/// An ok step stays ok where more clauses are known.
+/// An ok step stays ok where the clauses that are known up to its tag stay known.
 pub fn ok_step_stays_ok()
     ensures { OkStepStaysOk }
 {}

@@ -1,17 +1,19 @@
 -- Ok steps over all that is known in the end, and one by one.
-use Rattle.std.proofs.Common.{◌≡◌, ◌∙◌, ℕ, zero, suc, List, [], ◌∷◌, ◌++◌, map, take, refl, subst, sym, ap, inl, inr, append_assoc, append-nil, arith}
+use Rattle.std.proofs.Common.{◌≡◌, ◌∙◌, ℕ, zero, suc, ◌≤◌, List, [], ◌∷◌, ◌++◌, map, take, refl, subst, sym, ap, inl, inr, append_assoc, append-nil, arith}
 use Rattle.std.specs.Prelude.{Contains, ◌⊎◌, Option, Some, None, IsSome, slice_get, option_map, option_and_then}
 use Rattle.std.specs.List.{AllZip, All}
 use Rattle.std.proofs.lemmas.List.Elements.{All-nil, All-cons, All-head, All-tail}
+use Rattle.std.proofs.lemmas.Option.{same_Some}
 use Rattle.sat_base.proofs.Members.{Contains-cases}
 use Rattle.sat_base.specs.declared.origins.Ref.{Ref}
 use Rattle.sat_base.specs.declared.origins.Ref.TheVariants.{Input, Shared, Own}
-use Rattle.trace_core.specs.Known.{Known, known, item_at, clause_of, tag_of}
+use Rattle.trace_core.specs.Known.{Known, known, item_at, AgreeUpTo, clause_of, tag_of}
 use Rattle.trace_core.specs.Propagation.{IsProved}
 use Rattle.trace_core.specs.Trace.{IsOkStep, AreOkSteps, AreOkPackets, known_of, greatest}
 use Rattle.trace_core.specs.declared.derivation.Step.{Step}
-use Rattle.trace_core.proofs.Soundness.{ok_step_stays_ok, item_at-contains}
-use Rattle.trace_trim.specs.Names.{step_named}
+use Rattle.trace_core.proofs.Soundness.{ok_step_stays_ok, stays_ok_up_to_tag, hint_tag_within, item_at-contains}
+use Rattle.trace_trim.specs.Names.{step_named, cited, Cites}
+use Rattle.trace_trim.specs.Reached.{IsCitedAlong}
 use Rattle.trace_trim.proofs.Zips.{item_at-append, item_at-map}
 
 known_grows : (inputs : List Known) (packets : List (List Known)) (own more : List Known) (name : Ref) (named : Known) → known inputs packets own name ≡ Some named → known inputs packets (own ++ more) name ≡ Some named
@@ -102,6 +104,51 @@ ok_named inputs packets own (Shared p s) step ok_packets ok_own is = by_packet (
         agree (Input m) named is = is
         agree (Shared q t) named is = sym (shared_known packets own q t) ∙ is
         agree (Own m) named is = ap (λ o. option_map known_of (option_and_then (λ (steps : List Step). item_at steps m) o)) some ∙ sym (item_at-map known_of packet m) ∙ is
+
+-- A hint that names a step names what that step makes known.
+known_cited : (inputs : List Known) (packets : List (List Step)) (own : List Step) (user hint other : Ref)
+    → cited user hint ≡ Some other → known_by inputs packets own user hint ≡ option_map known_of (step_named packets own other)
+known_cited inputs packets own user (Input n) other is = absurd (cc)
+known_cited inputs packets own user (Shared p s) other is =
+    ap (λ name. option_map known_of (step_named packets own name)) (same_Some (Shared p s) other is)
+known_cited inputs packets own (Input k) (Own n) other is =
+    ap (λ name. option_map known_of (step_named packets own name)) (same_Some (Own n) other is)
+known_cited inputs packets own (Shared p s) (Own n) other is =
+    ap (λ name. option_map known_of (step_named packets own name)) (same_Some (Shared p n) other is)
+known_cited inputs packets own (Own k) (Own n) other is =
+    ap (λ name. option_map known_of (step_named packets own name)) (same_Some (Own n) other is)
+
+-- The tag of a step that is reached is at most that of the step that it is reached from.
+pub reached_tag_within : (inputs : List Known) (packets : List (List Step)) (own : List Step) (start one : Ref) (users : List Ref)
+    (first step : Step) → AreOkPackets inputs [] packets → AreOkSteps inputs (map (λ packet. map known_of packet) packets) [] own
+    → step_named packets own start ≡ Some first → step_named packets own one ≡ Some step
+    → IsCitedAlong (Cites packets own) start one users → step.tag ≤ first.tag
+reached_tag_within inputs packets own start one [] first step ok_packets ok_own starts is same =
+    let alike : step ≡ first = same_Some step first (sym is ∙ ap (step_named packets own) same ∙ starts) in
+    let tags = ap (λ (s : Step). s.tag) alike in
+    omega (arith, tags)
+reached_tag_within inputs packets own start one (user ∷ users) first step ok_packets ok_own starts is ((middle, there, (hint, has, cites)), along) =
+    let up = reached_tag_within inputs packets own start user users first middle ok_packets ok_own starts there along in
+    let names : known_by inputs packets own user hint ≡ Some (known_of step) =
+    known_cited inputs packets own user hint one cites ∙ ap (option_map known_of) is in
+    let down = hint_tag_within (known_by inputs packets own user) middle hint (known_of step)
+    (ok_named inputs packets own user middle ok_packets ok_own there) has names in
+    omega (arith, up, down)
+
+-- A step that is ok over all inputs is ok over those among which the inputs up to its tag stand at the same places.
+pub ok_over_fewer : (all inputs : List Known) (packets : List (List Step)) (own : List Step) (user : Ref) (step : Step) (bound : ℕ)
+    → AgreeUpTo bound all inputs → step.tag ≤ bound → IsOkStep (known_by all packets own user) step
+    → IsOkStep (known_by inputs packets own user) step
+ok_over_fewer all inputs packets own user step bound agree within ok =
+    stays_ok_up_to_tag (known_by all packets own user) (known_by inputs packets own user) step (keeps user) ok
+  where
+    keeps : (user name : Ref) (named : Known) → named.tag ≤ step.tag → known_by all packets own user name ≡ Some named
+        → known_by inputs packets own user name ≡ Some named
+    keeps user (Input number) named low is = agree number named is (omega (arith, low, within))
+    keeps user (Shared p s) named low is = is
+    keeps (Input k) (Own n) named low is = is
+    keeps (Shared p s) (Own n) named low is = is
+    keeps (Own k) (Own n) named low is = is
 
 -- hints that go together name the same
 same_names : {X : Type 0} (f g : Ref → X) (hints others : List Ref) → AllZip (λ hint other. f hint ≡ g other) hints others → map f hints ≡ map g others

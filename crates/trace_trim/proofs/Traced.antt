@@ -9,12 +9,13 @@ use Rattle.sat_base.specs.declared.origins.Ref.TheVariants.{Input, Shared, Own}
 use Rattle.trace_core.specs.Known.{Known, known, item_at}
 use Rattle.trace_core.specs.Trace.{IsOkStep, known_of}
 use Rattle.trace_core.specs.declared.derivation.Step.{Step}
+use Rattle.trace_core.proofs.Items.{slice_get-contains}
 use Rattle.trace_trim.specs.Names.{step_named, cited, IsBefore, CiteEarlierSteps}
 use Rattle.trace_trim.specs.Trimmed.{IsRenumberedHint, IsRenumbered, IsTrimmed, IsTraceWhereOk}
 use Rattle.trace_trim.proofs.Order.{before_trans, not_before_itself}
 use Rattle.trace_trim.proofs.Found.{either_side}
 use Rattle.trace_trim.proofs.Zips.{zip_back, zip_item, zip_ends, item_at-front, item_at-map, slice_get-place, get_or-slice_get}
-use Rattle.trace_trim.proofs.OkSteps.{ok_from_each, ok_named, ok_renamed, known_by}
+use Rattle.trace_trim.proofs.OkSteps.{ok_from_each, ok_named, ok_over_fewer, ok_renamed, reached_tag_within, known_by}
 
 -- what comes before the one at an index has a place up to it
 pub place_before : {X : Type 0} (before : X → X → Type 0) → ((a b c : X) → before a b → before b c → before a c) → ((a : X) → before a a → ⊥) → (ones : List X) (i place : ℕ) (user other : X)
@@ -72,7 +73,7 @@ zip_hints R S (hint ∷ hints) [] each zip = zip
 zip_hints R S (hint ∷ hints) (other ∷ others) each zip = (each hint other (Contains-here hint hints) zip.0, zip_hints R S hints others (λ h o has. each h o (Contains-there hint h hints has)) zip.1)
 
 pub traced : (packets : List (List Step)) (own : List Step) (last : ℕ) (trimmed : List Step) → CiteEarlierSteps packets own → IsTrimmed packets own last trimmed → IsTraceWhereOk packets own last trimmed
-traced packets own last trimmed earlier trim inputs part step ok_packets ok_own is_last negated = record {
+traced packets own last trimmed earlier trim all inputs part step ok_packets ok_own is_last agree negated = record {
   front = ends.0;
   last = ends.1;
   ends = ends.2;
@@ -89,9 +90,14 @@ traced packets own last trimmed earlier trim inputs part step ok_packets ok_own 
         ends.3.2.clause ∙ ap (λ (s : Step). s.clause) one
 
     each : (i : ℕ) (new : Step) → slice_get trimmed i ≡ Some new → IsOkStep (known inputs [] ([] ++ map known_of (take i trimmed))) new
-    each i new at = ok_renamed (known_by inputs packets own name) (known inputs [] (map known_of (take i trimmed))) old new (ok_named inputs packets own name old ok_packets ok_own found.2.1) found.2.2.clause found.2.2.tag
-        (zip_hints (IsRenumberedHint trim.names name) (λ hint other. known_by inputs packets own name hint ≡ known inputs [] (map known_of (take i trimmed)) other) old.hints new.hints
-        (λ hint other has is. same_known inputs packets own trim.names trimmed i name hint other trim.renumbered (λ cited_name place cites at_place. place_before IsBefore before_trans not_before_itself trim.names i place name cited_name trim.reached.ascending found.1 at_place (earlier name cited_name (old, found.2.1, (hint, has, cites))).1) is)
+    each i new at = ok_renamed (known_by inputs packets own name) (known inputs [] (map known_of (take i trimmed))) old new
+        (ok_over_fewer all inputs packets own name old step.tag agree within
+        (ok_named all packets own name old ok_packets ok_own found.2.1)) found.2.2.clause found.2.2.tag
+        (zip_hints (IsRenumberedHint trim.names name)
+        (λ hint other. known_by inputs packets own name hint ≡ known inputs [] (map known_of (take i trimmed)) other) old.hints new.hints
+        (λ hint other has is. same_known inputs packets own trim.names trimmed i name hint other trim.renumbered
+        (λ cited_name place cites at_place. place_before IsBefore before_trans not_before_itself trim.names i place name cited_name
+        trim.reached.ascending found.1 at_place (earlier name cited_name (old, found.2.1, (hint, has, cites))).1) is)
         found.2.2.hints)
       where
         found : (name : Ref) × (slice_get trim.names i ≡ Some name) × IsRenumbered packets own trim.names name new
@@ -102,3 +108,8 @@ traced packets own last trimmed earlier trim inputs part step ok_packets ok_own 
 
         old : Step
         old = found.2.0
+
+        within : old.tag ≤ step.tag
+        within =
+            let users = (trim.reached.exactly name).0 (slice_get-contains trim.names i name found.1) in
+            reached_tag_within all packets own (Own last) name users.0 step old ok_packets ok_own is_last found.2.1 users.1

@@ -4,7 +4,7 @@ use Rattle.std.specs.List.{AllZip}
 use Rattle.sat_base.specs.Lit.{opposite}
 use Rattle.sat_base.specs.declared.origins.Ref.{Ref}
 use Rattle.sat_base.specs.declared.origins.Ref.TheVariants.{Own}
-use Rattle.trace_core.specs.Known.{Known, item_at}
+use Rattle.trace_core.specs.Known.{Known, item_at, AgreeUpTo}
 use Rattle.trace_core.specs.Trace.{AreOkSteps, AreOkPackets, known_of, IsTrace}
 use Rattle.trace_core.specs.declared.derivation.Step.{Step}
 use Rattle.trace_trim.specs.Names.{step_named, cited, Cites, IsBefore}
@@ -38,7 +38,10 @@ pub record IsTrimmed (packets : List (List Step)) (own : List Step) (last : ℕ)
   pub reached : AreNamesReached packets own last names
   pub renumbered : AllZip (IsRenumbered packets own names) names trimmed
 
--- Over inputs for which the packets and the own steps are ok, the steps are a trace that refutes each part whose negation is the last clause.
+-- Where the packets and the own steps are ok over all inputs, the steps are a trace over any inputs among which those up to the last
+-- step's tag stand at the same places. It refutes each part whose negation is the last clause.
 abbrev pub IsTraceWhereOk : List (List Step) → List Step → ℕ → List Step → Type 0
-IsTraceWhereOk packets own last trimmed = (inputs : List Known) (part : List ℕ) (step : Step) → AreOkPackets inputs [] packets → AreOkSteps inputs (map (λ packet. map known_of packet) packets) [] own
-    → item_at own last ≡ Some step → ((lit : ℕ) → Contains step.clause lit ↔ Contains part (opposite lit)) → IsTrace inputs part trimmed
+IsTraceWhereOk packets own last trimmed = (all inputs : List Known) (part : List ℕ) (step : Step)
+    → AreOkPackets all [] packets → AreOkSteps all (map (λ packet. map known_of packet) packets) [] own
+    → item_at own last ≡ Some step → AgreeUpTo step.tag all inputs
+    → ((lit : ℕ) → Contains step.clause lit ↔ Contains part (opposite lit)) → IsTrace inputs part trimmed

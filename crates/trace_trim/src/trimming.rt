@@ -15,8 +15,9 @@ use trace_core::{Packet, Step};
 
 /// The steps that own step `last`, counted from 1, rests on: exactly those that are reached from it over
 /// hints, renumbered as one list of own steps in which hints look back. The last of them has the clause of
-/// own step `last`. Where the given steps are ok over some inputs, they are a trace. Time and memory grow
-/// with the steps that are reached and their hints, and not with all that were learnt.
+/// own step `last`. Where the given steps are ok over some inputs, they are a trace, also over those inputs
+/// alone whose tag is at most that of own step `last`. Time and memory grow with the steps that are reached
+/// and their hints, and not with all that were learnt.
 pub fn trim(
     alloc: Global,
     packets: &[Arc<Packet>],

@@ -1,5 +1,5 @@
-use Rattle.trace_core.proofs.Soundness.{ok_step_stays_ok}
+use Rattle.trace_core.proofs.Soundness.{stays_ok_up_to_tag}
 use Rattle.trace_core.proofs.laws.ok_step_stays_ok.Goals as goal
 
 pub returns : goal.returns
-returns c = ok_step_stays_ok
+returns c = stays_ok_up_to_tag
