@@ -4,3 +4,5 @@ pub mod Fits
 pub mod Ends
 pub mod Asked
 pub mod Kept
+pub mod Rounds
+pub mod Importing

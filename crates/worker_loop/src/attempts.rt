@@ -1,86 +1,118 @@
 //! Attempts.
 
-ghost use Rattle.std.specs.Prelude.{◌≡◌, ◌≤◌, [], IfOk, OnOk};
+ghost use Rattle.std.specs.Prelude.{◌≡◌, ◌<◌, ◌≤◌, None, length, List, IfOk, IfSome, OnOk};
+ghost use Rattle.entry_core.specs.declared.entries.Entry.{Entry};
+ghost use Rattle.search_core.specs.declared.rounds.Round.TheVariants.{Paused};
 ghost use Rattle.search_core.specs.Refutations.{IsRefutation};
 ghost use Rattle.search_core.specs.Solving.{Keeps};
-ghost use Rattle.board_core.specs.Replies.{IsJob};
-ghost use Rattle.worker_loop.specs.Fits.{Fits};
-ghost use Rattle.worker_loop.specs.Ends.{IsEnd};
 ghost use Rattle.worker_loop.specs.Asked.{IsEndOver, IsRightOver};
-ghost use Rattle.worker_loop.specs.Kept.{KeepsLearnt};
+ghost use Rattle.worker_loop.specs.Fits.{AreLearnt, FitsAttempt, FitsLegal};
+ghost use Rattle.worker_loop.specs.Rounds.{HasLearntOn, IsOfLearnt, IsRightRound};
 
+use crate::attempt::Attempt;
+use crate::bench::Bench;
 use crate::ends::End;
-use crate::lessons::learnt_behind;
-use crate::loading::bring_to;
-use crate::rounds::run_rounds;
-use board_core::Board;
+use crate::lessons::copies_of;
+use crate::rounds::make_round;
 use entry_core::Answer;
 use sat_base::Cube;
 use search_core::Round;
-use session::Session;
 use std::alloc::{AllocError, Global};
+use std::sync::Arc;
 use trace_core::Steps;
 use trace_trim::trim;
 
-/// One attempt at a job: the session is brought to the job, and makes rounds of at most 256 learnt clauses, never
-/// more than the budget leaves, until it has an answer or has learnt as many clauses as the rules' budget. What it
-/// learnt is kept for later attempts, unless the session was past the job: then it begins anew.
+/// Rounds until the attempt has its answer, or has learnt as many clauses as the budget allows.
 pub(crate) fn pursue(
     alloc: Global,
-    board: &Board,
-    session: &mut Session,
-    job: u32,
-) -> Result<End, AllocError>
-    requires job { IsJob board.now job }
-    requires fits { Fits session.old.solver board.now.journal }
-    ensures fits { OnOk result (Fits session.new.solver board.now.journal) }
-    ensures bound { OnOk result (session.new.solver.bound ≡ job) }
-    ensures end { IfOk result (IsEnd board.now job) }
-    ensures kept { session.old.solver.bound ≤ job → KeepsLearnt session.old.solver session.new.solver }
-{
-    bring_to(alloc, board, session, job)?;
-    let segment = board.segment(job)?;
-    attempt(alloc, session, &segment.cube, board.rules().conflicts)
-}
-
-// An attempt at the cube of the job that is loaded.
-fn attempt(
-    alloc: Global,
-    session: &mut Session,
-    cube: &Cube,
+    bench: &mut Bench,
+    attempt: &mut Attempt,
     budget: u64,
 ) -> Result<End, AllocError>
-    requires packets { session.old.solver.packets ≡ [] }
-    ensures keeps { Keeps session.old.solver session.new.solver }
-    ensures end { IfOk result (IsEndOver session.old.solver.inputs cube.now budget) }
+    requires left { length attempt.old.learnt.items < budget }
+    requires fits { FitsLegal bench.old }
+    requires learnt { AreLearnt bench.old.session.solver attempt.old.cube attempt.old.learnt.items }
+    ensures end { IfOk result (IsEndOver bench.old.session.solver.inputs attempt.old.cube budget) }
+    ensures learnt { OnOk result (HasLearntOn bench.old.session.solver bench.new.session.solver attempt.old attempt.new budget) }
+    ensures spent { IfOk result (IsOfLearnt bench.new.session.solver attempt.new) }
+    ensures fits { OnOk result ((journal : List Entry) → FitsAttempt bench.old attempt.old journal → FitsAttempt bench.new attempt.new journal) }
+    ensures keeps { Keeps bench.old.session.solver bench.new.session.solver }
+    ensures bench { bench.new ≡ record bench.old { session = bench.new.session } }
 {
-    // What every session keeps is known before the rounds and after them.
-    let _ = session.steps();
-    let before = session.learnt().len();
-    let round = run_rounds(session, cube, budget)?;
-    let _ = session.steps();
-    match round {
-        Round::Model(model) => Ok(End::Answered(Answer::Model(model))),
-        Round::Refuted(part, number) => {
-            Ok(End::Answered(traced(alloc, session, cube, part, number)?))
+    'rounds: loop {
+        let round = make_round(bench, attempt, budget)?;
+        match end_of(alloc, bench, attempt, budget, round)? {
+            Some(end) => return Ok(end),
+            None => {}
         }
-        Round::Paused => Ok(End::Spent(learnt_behind(alloc, session, before)?)),
     }
 }
 
-// The refuted part with its trace: what the own step of its negation rests on. It takes the time of those steps and
-// hints, times the logarithm of their number, and none for the other steps of the session.
+/// The end of an attempt after a round, none where it goes on: an answer with its trace, or copies of exactly the
+/// clauses that it learnt, where these are as many as the budget allows.
+pub(crate) fn end_of(
+    alloc: Global,
+    bench: &Bench,
+    attempt: &Attempt,
+    budget: u64,
+    round: Round,
+) -> Result<Option<End>, AllocError>
+    requires fits { FitsLegal bench.now }
+    requires learnt { AreLearnt bench.now.session.solver attempt.now.cube attempt.now.learnt.items }
+    requires few { length attempt.now.learnt.items ≤ budget }
+    requires right { IsRightRound bench.now.session.solver attempt.now.cube round }
+    ensures end { IfOk result (λ end. IfSome end (IsEndOver bench.now.session.solver.inputs attempt.now.cube budget)) }
+    ensures learnt { IfOk result (λ end. IfSome end (IsOfLearnt bench.now.session.solver attempt.now)) }
+    ensures goes_on { IfOk result (λ end. end ≡ None → length attempt.now.learnt.items < budget) }
+    ensures paused { IfOk result (λ end. end ≡ None → round ≡ Paused) }
+{
+    match round {
+        Round::Model(model) => {
+            let answer = Arc::new(alloc, Answer::Model(model))?;
+            Ok(Some(End::Answered(answer)))
+        }
+        Round::Refuted(part, number) => {
+            let answer = Arc::new(alloc, traced(alloc, bench, &attempt.cube, part, number)?)?;
+            Ok(Some(End::Answered(answer)))
+        }
+        Round::Paused => spent(alloc, bench, attempt, budget),
+    }
+}
+
+// Copies of exactly the clauses that the attempt learnt, where these are as many as the budget allows.
+fn spent(
+    alloc: Global,
+    bench: &Bench,
+    attempt: &Attempt,
+    budget: u64,
+) -> Result<Option<End>, AllocError>
+    requires learnt { AreLearnt bench.now.session.solver attempt.now.cube attempt.now.learnt.items }
+    requires few { length attempt.now.learnt.items ≤ budget }
+    ensures end { IfOk result (λ end. IfSome end (IsEndOver bench.now.session.solver.inputs attempt.now.cube budget)) }
+    ensures learnt { IfOk result (λ end. IfSome end (IsOfLearnt bench.now.session.solver attempt.now)) }
+    ensures goes_on { IfOk result (λ end. end ≡ None → length attempt.now.learnt.items < budget) }
+{
+    if (attempt.learnt.len() as u64) < budget {
+        return Ok(None);
+    }
+    let copies = copies_of(alloc, bench.session.steps(), &attempt.learnt)?;
+    Ok(Some(End::Spent(Arc::new(alloc, copies)?)))
+}
+
+// The refuted part with its trace: what the own step of its negation rests on, out of the packets that were read and the
+// session's own steps. It takes the time of those steps and hints, times the logarithm of their number, and none for the
+// other steps of the session.
 fn traced(
     alloc: Global,
-    session: &Session,
+    bench: &Bench,
     cube: &Cube,
     part: Cube,
     number: u64,
 ) -> Result<Answer, AllocError>
-    requires packets { session.now.solver.packets ≡ [] }
-    requires refuted { IsRefutation session.now.solver.inputs session.now.solver.steps cube.now part number }
-    ensures { IfOk result (IsRightOver session.now.solver.inputs cube.now) }
+    requires fits { FitsLegal bench.now }
+    requires refuted { IsRefutation bench.now.session.solver.inputs bench.now.session.solver.steps cube.now part number }
+    ensures { IfOk result (IsRightOver bench.now.session.solver.inputs cube.now) }
 {
-    let steps = trim(alloc, &[], session.steps(), number)?;
+    let steps = trim(alloc, &bench.packets, bench.session.steps(), number)?;
     Ok(Answer::Refuted(part, Steps::of(steps)))
 }

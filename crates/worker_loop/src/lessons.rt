@@ -1,42 +1,39 @@
 //! What was learnt in an attempt.
 
-ghost use Rattle.std.specs.Prelude.{◌≡◌, ◌≤◌, drop, length, map, All, IfOk, IsSome};
+ghost use Rattle.std.specs.Prelude.{◌≡◌, All, IfOk, IsSome};
 ghost use Rattle.trace_core.specs.Known.{item_at};
 ghost use Rattle.entry_core.specs.Right.{AreLiterals};
-ghost use Rattle.worker_loop.specs.Asked.{clause_at};
+ghost use Rattle.worker_loop.specs.Asked.{clause_at, clauses_at};
 
 use entry_core::Clauses;
 use sat_base::Clause;
-use session::Session;
 use std::alloc::{AllocError, Global};
 use trace_core::Step;
 
-/// Copies of the clauses that the session learnt behind the first `before`, in order.
-pub(crate) fn learnt_behind(
+/// Copies of the clauses of the own steps of these numbers, counted from 1, in order.
+pub(crate) fn copies_of(
     alloc: Global,
-    session: &Session,
-    before: usize,
+    steps: &[Step],
+    numbers: &[u64],
 ) -> Result<Clauses, AllocError>
-    requires { before ≤ length session.now.solver.learnt }
-    ensures value { IfOk result (λ clauses. clauses ≡ map (clause_at session.now.solver.steps) (drop before session.now.solver.learnt)) }
-    ensures literals { IfOk result (All AreLiterals) }
+    requires { All (λ number. IsSome (item_at steps.now number)) numbers.now }
+    ensures { IfOk result (λ clauses. clauses ≡ clauses_at steps.now numbers.now) }
 {
-    let steps = session.steps();
-    let numbers = &session.learnt()[before..];
     let mut clauses = Vec::with_capacity(alloc, numbers.len())?;
     for number in numbers {
-        clauses.push(copy_of(alloc, steps, *number)?)?;
+        clauses.push(own_clause(steps, *number).copy(alloc)?)?;
     }
     Ok(Clauses::of(clauses))
 }
 
-// A copy of the clause of the step of that number, counted from 1.
-fn copy_of(alloc: Global, steps: &[Step], number: u64) -> Result<Clause, AllocError>
+/// The clause of the step of that number.
+pub(crate) fn own_clause(steps: &[Step], number: u64) -> &Clause
     requires { IsSome (item_at steps.now number) }
-    ensures value { IfOk result (λ clause. clause ≡ clause_at steps.now number) }
-    ensures literals { IfOk result AreLiterals }
+    ensures value { result.now ≡ clause_at steps.now number }
+    ensures literals { AreLiterals result.now }
 {
     let clause = &steps[number as usize - 1].clause;
+    // Every clause is of literals.
     let _ = clause.lits();
-    clause.copy(alloc)
+    clause
 }

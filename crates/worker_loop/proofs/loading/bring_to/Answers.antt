@@ -1,25 +1,10 @@
-use Rattle.std.proofs.Common.{◌∙◌, arith, ap, sym, subst}
-use Rattle.session.specs.Session.{SessionView}
-use Rattle.worker_loop.specs.Fits.{Fits}
-use Rattle.worker_loop.specs.Kept.{KeepsLearnt}
-use Rattle.worker_loop.proofs.Fitting.{none_fits}
-use Rattle.worker_loop.proofs.Keeping.{kept_itself}
+use Rattle.worker_loop.proofs.Fitting.{few_read}
+use Rattle.worker_loop.proofs.Imports.{can_be_taken}
 use Rattle.worker_loop.proofs.loading.bring_to.Goals as goal
-use Rattle.worker_loop.proofs.loading.bring_to.Goals.{then-bound-job, else-bound-job}
 
-pub loop-session-init : goal.loop-session-init
-loop-session-init c = elim c.if-bound-job.branch [
-  | then-bound-job w ↦
-      let is = w.session-is ∙ w.new.ensures in
-      record {
-        fits = subst (λ (s : SessionView). Fits s.solver c.args.board.now.journal) (sym is) (none_fits c.args.board.now.journal);
-        below = omega (arith, ap (λ (s : SessionView). s.solver.bound) is);
-        kept = λ low. absurd (omega (arith, low, w.if-bound-job.true, c.bound.ensures));
-      }
-  | else-bound-job w ↦
-      record {
-        fits = subst (λ (s : SessionView). Fits s.solver c.args.board.now.journal) (sym w.session-is) c.requires.fits;
-        below = omega (arith, w.if-bound-job.false, c.bound.ensures, ap (λ (s : SessionView). s.solver.bound) w.session-is);
-        kept = λ low. subst (λ (s : SessionView). KeepsLearnt c.args.session.now.solver s.solver) (sym w.session-is) (kept_itself c.args.session.now.solver);
-      }
-]
+pub import_waiting-requires-clause-few : goal.import_waiting-requires-clause-few
+import_waiting-requires-clause-few c = few_read c.args.board.now.rules c.args.board.now.journal c.load_up_to.new.bench c.journal.ensures.legal c.in_ok-load_up_to.ensures.fits
+
+pub import_waiting-requires-clause-takable : goal.import_waiting-requires-clause-takable
+import_waiting-requires-clause-takable c =
+    can_be_taken c.load_up_to.new.bench (record { rules = c.args.board.now.rules; journal = c.args.board.now.journal; legal = c.journal.ensures.legal; fits = c.in_ok-load_up_to.ensures.fits })
