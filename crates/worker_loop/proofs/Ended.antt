@@ -1,5 +1,5 @@
 -- What the end of an attempt does to its job.
-use Rattle.std.proofs.Common.{◌≡◌, ◌∙◌, inl, inr, ℕ, suc, ◌+◌, Bool, true, false, cond, Option, Some, None, List, [], ◌∷◌, ◌++◌, refl, ap, sym, subst, arith, ◌==◌, ◌||◌}
+use Rattle.std.proofs.Common.{◌≡◌, ◌∙◌, ◌⊎◌, inl, inr, ℕ, suc, ◌+◌, Bool, true, false, cond, Option, Some, None, List, [], ◌∷◌, ◌++◌, refl, ap, sym, subst, arith, ◌==◌, ◌||◌}
 use Rattle.std.specs.Prelude.{IsSome, find, option_map, nat_le}
 use Rattle.std.specs.List.{list_any}
 use Rattle.std.specs.Option.{option_or}
@@ -13,16 +13,19 @@ use Rattle.entry_core.specs.declared.answers.Verdict.{Verdict}
 use Rattle.entry_core.specs.declared.answers.Verdict.TheVariants as verdict
 use Rattle.entry_core.specs.declared.segments.Clauses.{Clauses}
 use Rattle.entry_core.specs.declared.entries.Entry.{Entry}
+use Rattle.entry_core.specs.declared.entries.Event.{Event}
 use Rattle.entry_core.specs.declared.entries.Event.TheVariants as event
 use Rattle.entry_core.specs.declared.rules.Rules.{Rules}
-use Rattle.entry_core.specs.Attempts.{begun_by, is_at, is_attempt_at, spent_attempts}
+use Rattle.entry_core.specs.Attempts.{begun_by, ended_by, is_at, is_attempt_at, spent_attempts}
 use Rattle.entry_core.specs.Settled.{Decision, decision_of, decisions, cancelled, starved_by, starved, or_else, given_if, answer_to, overtaken, standing, settled}
 use Rattle.board_core.specs.State.{State, entered}
-use Rattle.board_core.specs.Replies.{job_in, job_at}
+use Rattle.board_core.specs.Replies.{job_in}
 use Rattle.board_core.proofs.Readings.{unread, read_on, settled_push}
 use Rattle.board_core.proofs.Verdicts.{entry_by}
 use Rattle.board_core.proofs.Indexed.{spent_more}
-use Rattle.worker_loop.specs.Attempts.{IsAt, EndsBy, HasEnded, HasFound}
+use Rattle.worker_loop.specs.declared.ends.End.{End}
+use Rattle.worker_loop.specs.declared.ends.End.TheVariants.{Answered, Spent}
+use Rattle.worker_loop.specs.Attempts.{IsAt, EndsBy, HasEnded, event_of}
 
 some_first : (given other : Option Verdict) → IsSome given → IsSome (or_else given other)
 some_first None other is = absurd (cc)
@@ -97,55 +100,31 @@ at_own board caller number job here =
     let itself : (begun.job == job) ≡ true = grind (arith, nat_tests) in
     ap (is_at job) found ∙ itself
 
--- a settled job whose attempt was dropped
-found_dropped : (old new : State) (caller number job : ℕ) → IsAt old caller number job
-    → IsSome (settled old.rules old.journal (job_at old number)) × (new ≡ entered old caller (event.Dropped number)) → HasFound old new caller number job
-found_dropped old new caller number job here late =
-    let settled_job : IsSome (settled old.rules old.journal job) = subst (λ n. IsSome (settled old.rules old.journal n)) here.at_job late.0 in
-    record {
-      ended = record {
-        happened = event.Dropped number;
-        ends = refl;
-        is = late.1;
-        nearer = inl (subst (λ (b : State). IsSome (settled b.rules b.journal job)) (sym late.1)
-            (still_settled old.rules old.journal (entry_by caller (event.Dropped number)) job settled_job));
-      };
-      memory = tt;
-    }
-
-pub found_decided : (old new : State) (caller number job : ℕ) (given : Arc Answer Global) → IsAt old caller number job → EndsBy old new caller number (event.Decided number given)
-    → HasFound old new caller number job
-found_decided old new caller number job given here (inr late) = found_dropped old new caller number job here late
-found_decided old new caller number job given here (inl is) = record {
-  ended = record {
-    happened = event.Decided number given;
-    ends = refl;
-    is = is;
-    nearer = inl (subst (λ (b : State). IsSome (settled b.rules b.journal job)) (sym is)
-        (settled_by_answer old.rules old.journal caller number job given (at_own old caller number job here)));
-  };
-  memory = tt;
-}
-
-pub found_spent : (old new : State) (caller number job : ℕ) (learnt : Arc Clauses Global) → IsAt old caller number job → EndsBy old new caller number (event.Spent number learnt)
-    → HasFound old new caller number job
-found_spent old new caller number job learnt here (inr late) = found_dropped old new caller number job here late
-found_spent old new caller number job learnt here (inl is) = record {
-  ended = record {
-    happened = event.Spent number learnt;
-    ends = refl;
-    is = is;
-    nearer = inr (ap (λ (b : State). spent_attempts b.journal job) is ∙ spent_by_one old.journal caller number job learnt (at_own old caller number job here));
-  };
-  memory = tt;
-}
-
-pub ended_starved : (old new : State) (caller number job : ℕ) → IsAt old caller number job → EndsBy old new caller number (event.Starved number) → HasEnded old new caller number job
-ended_starved old new caller number job here (inr late) = (found_dropped old new caller number job here late).ended
-ended_starved old new caller number job here (inl is) = record {
-  happened = event.Starved number;
-  ends = refl;
+-- One entry ends the attempt, and brings its job nearer to its verdict.
+ends_with : (old new : State) (caller number job : ℕ) (happened : Event) → new ≡ entered old caller happened → ended_by happened ≡ Some number
+    → IsSome (settled old.rules (entered old caller happened).journal job) ⊎ (spent_attempts (entered old caller happened).journal job ≡ suc (spent_attempts old.journal job))
+    → HasEnded old new caller number job
+ends_with old new caller number job happened is ends (inl given) = record {
+  happened = happened;
+  ends = ends;
   is = is;
-  nearer = inl (subst (λ (b : State). IsSome (settled b.rules b.journal job)) (sym is)
-      (settled_by_want old.rules old.journal caller number job (at_own old caller number job here)));
+  nearer = inl (subst (λ (b : State). IsSome (settled b.rules b.journal job)) (sym is) given);
 }
+ends_with old new caller number job happened is ends (inr one) = record {
+  happened = happened;
+  ends = ends;
+  is = is;
+  nearer = inr (ap (λ (b : State). spent_attempts b.journal job) is ∙ one);
+}
+
+-- However an attempt ends, its job is settled or has one spent attempt more.
+pub has_ended : (old new : State) (caller number job : ℕ) (end : Option End) → IsAt old caller number job → EndsBy old new caller number (event_of number end) → HasEnded old new caller number job
+has_ended old new caller number job end here (inr late) =
+    ends_with old new caller number job (event.Dropped number) late.1 refl
+    (inl (still_settled old.rules old.journal (entry_by caller (event.Dropped number)) job (subst (λ n. IsSome (settled old.rules old.journal n)) here.at_job late.0)))
+has_ended old new caller number job None here (inl is) =
+    ends_with old new caller number job (event.Starved number) is refl (inl (settled_by_want old.rules old.journal caller number job (at_own old caller number job here)))
+has_ended old new caller number job (Some (Answered given)) here (inl is) =
+    ends_with old new caller number job (event.Decided number given) is refl (inl (settled_by_answer old.rules old.journal caller number job given (at_own old caller number job here)))
+has_ended old new caller number job (Some (Spent learnt)) here (inl is) =
+    ends_with old new caller number job (event.Spent number learnt) is refl (inr (spent_by_one old.journal caller number job learnt (at_own old caller number job here)))

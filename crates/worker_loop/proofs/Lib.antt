@@ -1,4 +1,13 @@
 pub mod Events
+pub mod Earlier
+pub mod Bounded
+pub mod Traced
+pub mod Keeping
+pub mod Learnt
+pub mod InRounds
+pub mod Imports
+pub mod Asked
+pub mod Fitting
 pub mod Kept
 pub mod Ended
 pub mod Rested

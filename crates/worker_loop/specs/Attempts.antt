@@ -1,5 +1,5 @@
 -- One attempt of a worker, and what is left to do after it.
-use Rattle.std.specs.Prelude.{◌≡◌, ◌⊎◌, ℕ, zero, suc, ◌+◌, ◌-◌, Some, IsSome, is_some, if◌then◌else◌, List}
+use Rattle.std.specs.Prelude.{◌≡◌, ◌⊎◌, ℕ, zero, suc, ◌+◌, ◌-◌, ◌≤◌, Option, None, Some, IsSome, is_some, if◌then◌else◌, List, []}
 use Rattle.entry_core.specs.declared.entries.Entry.{Entry}
 use Rattle.entry_core.specs.declared.entries.Event.{Event}
 use Rattle.entry_core.specs.declared.entries.Event.TheVariants as event
@@ -9,8 +9,12 @@ use Rattle.entry_core.specs.Attempts.{ended_by, spent_attempts}
 use Rattle.entry_core.specs.Settled.{settled}
 use Rattle.board_core.specs.State.{State, entered}
 use Rattle.board_core.specs.Replies.{IsJob, IsOwn, job_at}
-use Rattle.search_core.specs.Solver.{Solver}
-use Rattle.attempt_core.specs.Fits.{Fits}
+use Rattle.session.specs.Session.{no_inputs}
+use Rattle.worker_loop.specs.declared.bench.Bench.{Bench}
+use Rattle.worker_loop.specs.declared.ends.End.{End}
+use Rattle.worker_loop.specs.declared.ends.End.TheVariants.{Answered, Spent}
+use Rattle.worker_loop.specs.Fits.{Fits}
+use Rattle.worker_loop.specs.Kept.{KeepsLearnt}
 use Rattle.worker_loop.specs.Working.{HasAttemptsMore, IsResting}
 
 -- an open attempt of the caller at this job of the board
@@ -32,17 +36,29 @@ pub record HasEnded (old new : State) (caller number job : ℕ) : Type 0 where
   pub is : new ≡ entered old caller happened
   pub nearer : IsSome (settled new.rules new.journal job) ⊎ (spent_attempts new.journal job ≡ suc (spent_attempts old.journal job))
 
--- an event that ends an attempt which found memory
-abbrev pub FoundMemory : Event → Type 0
-FoundMemory (event.Spent number learnt) = Unit {0}
-FoundMemory (event.Dropped number) = Unit {0}
-FoundMemory (event.Decided number given) = Unit {0}
-FoundMemory _ = ⊥
+-- the event that ends an attempt in this way, or as starved where there is no end
+abbrev pub event_of : ℕ → Option End → Event
+event_of number None = event.Starved number
+event_of number (Some (Answered answer)) = event.Decided number answer
+event_of number (Some (Spent learnt)) = event.Spent number learnt
 
--- The attempt ended with what it found: an answer or a spent list.
-pub record HasFound (old new : State) (caller number job : ℕ) : Type 0 where
-  pub ended : HasEnded old new caller number job
-  pub memory : FoundMemory ended.happened
+-- a bench that has read nothing, whose session has no clauses
+pub record IsNewBench (bench : Bench) : Type 0 where
+  pub session : bench.session.solver ≡ no_inputs
+  pub packets : bench.packets.items ≡ []
+
+pub record IsFoundAt (old new : State) (caller number job : ℕ) (bench bench' : Bench) : Type 0 where
+  pub end : End
+  pub ends : EndsBy old new caller number (event_of number (Some end))
+  pub bound : bench'.session.solver.bound ≡ job
+  pub kept : bench.session.solver.bound ≤ job → KeepsLearnt bench.session.solver bench'.session.solver
+
+-- The attempt ended with what it found, its session at the job with all that it had learnt before, unless it was past the job;
+-- or it starved, and the bench is a new one.
+abbrev pub HasMade : State → State → ℕ → ℕ → ℕ → Bench → Bench → Type 0
+HasMade old new caller number job bench bench' =
+    (IsFoundAt old new caller number job bench bench')
+    ⊎ (EndsBy old new caller number (event.Starved number) × IsNewBench bench')
 
 -- how many attempts at the job may still be spent
 abbrev pub attempts_left : Rules → List Entry → ℕ → ℕ
@@ -56,8 +72,8 @@ left_up_to rules journal (suc job) = left_up_to rules journal job + attempts_lef
 abbrev pub left_on : State → ℕ
 left_on board = left_up_to board.rules board.journal (jobs board.journal)
 
--- What stands between attempts: those so far, the worker's rest, and the session.
-pub record GoesOn (old new : State) (caller : ℕ) (solver : Solver) : Type 0 where
+-- What stands between attempts: those so far, the worker's rest, and the bench.
+pub record GoesOn (old new : State) (caller : ℕ) (bench : Bench) : Type 0 where
   pub works : HasAttemptsMore old new caller
   pub resting : IsResting new caller
-  pub fits : Fits solver new.journal
+  pub fits : Fits bench new.journal

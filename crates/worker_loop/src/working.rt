@@ -5,34 +5,34 @@ ghost use Rattle.entry_core.specs.Legal.{IsWorker};
 ghost use Rattle.entry_core.specs.Schedule.{IsWaiting};
 ghost use Rattle.entry_core.specs.Settled.{settled};
 ghost use Rattle.board_core.specs.Replies.{IsJob};
-ghost use Rattle.attempt_core.specs.Fits.{Fits};
+ghost use Rattle.worker_loop.specs.Fits.{Fits};
 ghost use Rattle.worker_loop.specs.Working.{HasAttemptsMore, IsResting};
 ghost use Rattle.worker_loop.specs.Attempts.{left_on};
 
-use crate::ends::make_attempt;
+use crate::bench::Bench;
+use crate::ending::make_attempt;
 use board_core::{Board, Task};
-use session::Session;
 use std::alloc::{AllocError, Global};
 
 /// Makes attempts at the jobs of the board until none is to take. Want of memory within an attempt ends it as
-/// starved, and the work goes on with a new session; so the error comes from taking a job alone.
+/// starved, and the work goes on with a new bench; so the error comes from taking a job alone.
 pub fn work_alone(
     alloc: Global,
     board: &mut Board,
     caller: u32,
-    session: &mut Session,
+    bench: &mut Bench,
 ) -> Result<(), AllocError>
     requires worker { IsWorker board.old.rules caller }
     requires resting { IsResting board.old caller }
-    requires fits { Fits session.old.solver board.old.journal }
+    requires fits { Fits bench.old board.old.journal }
     ensures works { HasAttemptsMore board.old board.new caller }
     ensures resting { IsResting board.new caller }
-    ensures fits { Fits session.new.solver board.new.journal }
+    ensures fits { Fits bench.new board.new.journal }
     ensures idle { OnOk result ((job : ℕ) → ¬ IsWaiting board.new.rules board.new.journal job) }
     // With one worker, nothing is left to do.
     ensures settled { OnOk result (board.old.rules.workers ≡ 1 → (job : ℕ) → IsJob board.new job → IsSome (settled board.new.rules board.new.journal job)) }
 {
-    'attempts: while work_once(alloc, board, caller, session)? {}
+    'attempts: while work_once(alloc, board, caller, bench)? {}
     // What every board keeps is told with its rules and its journal.
     let _ = board.rules();
     let _ = board.journal();
@@ -44,20 +44,20 @@ fn work_once(
     alloc: Global,
     board: &mut Board,
     caller: u32,
-    session: &mut Session,
+    bench: &mut Bench,
 ) -> Result<bool, AllocError>
     requires worker { IsWorker board.old.rules caller }
     requires resting { IsResting board.old caller }
-    requires fits { Fits session.old.solver board.old.journal }
+    requires fits { Fits bench.old board.old.journal }
     ensures works { HasAttemptsMore board.old board.new caller }
     ensures resting { IsResting board.new caller }
-    ensures fits { Fits session.new.solver board.new.journal }
+    ensures fits { Fits bench.new board.new.journal }
     ensures fewer { IfOk result (λ made. IsTrue made → left_on board.new < left_on board.old) }
     ensures idle { IfOk result (λ made. made ≡ false → (job : ℕ) → ¬ IsWaiting board.new.rules board.new.journal job) }
 {
     match board.take(caller)? {
         Task::Job { job, attempt } => {
-            make_attempt(alloc, board, caller, session, job, attempt);
+            make_attempt(alloc, board, caller, bench, job, attempt);
             Ok(true)
         }
         Task::Done | Task::Idle => Ok(false),

@@ -3,7 +3,7 @@ use Rattle.std.proofs.Common.{◌≡◌, ℕ, sym, subst, rules}
 use Rattle.entry_core.specs.Schedule.{IsWaiting}
 use Rattle.board_core.specs.State.{State}
 use Rattle.board_core.specs.Replies.{IsBegun, IsTask}
-use Rattle.attempt_core.specs.Fits.{Fits}
+use Rattle.worker_loop.specs.Fits.{Fits}
 use Rattle.worker_loop.specs.Working.{IsResting, HasAttemptsMore}
 use Rattle.worker_loop.proofs.Rested.{begun_at, rested}
 use Rattle.worker_loop.proofs.Left.{left_fewer}
@@ -26,7 +26,7 @@ pub make_attempt-requires-clause-fits : goal.make_attempt-requires-clause-fits
 make_attempt-requires-clause-fits c =
     let begun : IsBegun c.args.board.now c.take.new.self c.args.caller c.in-Job.job c.in-Job.attempt =
     subst (IsTask c.args.board.now c.take.new.self c.args.caller) c.in-Job.is c.in_ok-job.ensures.task in
-    fits_entered c.args.session.now.solver c.args.board.now c.take.new.self c.args.caller _ begun.adds c.requires.fits
+    fits_entered c.args.bench.now c.args.board.now c.take.new.self c.args.caller _ begun.adds c.requires.fits
 
 pub returns-in-Job-clause-resting : goal.returns-in-Job-clause-resting
 returns-in-Job-clause-resting c =
@@ -47,7 +47,7 @@ returns-in-Done c =
     record {
       works = subst (λ (b : State). HasAttemptsMore c.args.board.now b c.args.caller) same (nothing_more c.args.board.now c.args.caller);
       resting = subst (λ (b : State). IsResting b c.args.caller) same c.requires.resting;
-      fits = subst (λ (b : State). Fits c.args.session.now.solver b.journal) same c.requires.fits;
+      fits = subst (λ (b : State). Fits c.args.bench.now b.journal) same c.requires.fits;
       fewer = λ made. absurd (cc);
       idle = λ made. subst (λ (b : State). (job : ℕ) → IsWaiting b.rules b.journal job → ⊥) same rest.1;
     }

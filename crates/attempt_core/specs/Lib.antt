@@ -1,4 +1,0 @@
-pub mod Fits
-pub mod Ends
-pub mod Asked
-pub mod Kept

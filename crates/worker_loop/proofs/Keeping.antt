@@ -1,0 +1,56 @@
+-- What was learnt is kept through one call after another.
+use Rattle.std.proofs.Common.{ℕ, ◌+◌, List, refl, ap, ◌∙◌}
+use Rattle.search_core.specs.Loading.{loaded, tagged}
+use Rattle.search_core.specs.Solver.{Solver, packet_at}
+use Rattle.search_core.specs.Solving.{Keeps}
+use Rattle.search_core.proofs.Settled.{same_front, front_twice}
+use Rattle.worker_loop.specs.Kept.{KeepsLearnt}
+
+pub keeps_itself : (solver : Solver) → Keeps solver solver
+keeps_itself solver = record {
+  inputs = refl;
+  bound = refl;
+  packets = refl;
+  held = same_front solver.held;
+  steps = same_front solver.steps;
+  learnt = same_front solver.learnt;
+}
+
+pub keeps_twice : (old mid new : Solver) → Keeps old mid → Keeps mid new → Keeps old new
+keeps_twice old mid new a b = record {
+  inputs = b.inputs ∙ a.inputs;
+  bound = b.bound ∙ a.bound;
+  packets = b.packets ∙ a.packets;
+  held = front_twice old.held mid.held new.held a.held b.held;
+  steps = front_twice old.steps mid.steps new.steps a.steps b.steps;
+  learnt = front_twice old.learnt mid.learnt new.learnt a.learnt b.learnt;
+}
+
+pub kept_itself : (solver : Solver) → KeepsLearnt solver solver
+kept_itself solver = record { held = same_front solver.held; steps = same_front solver.steps; learnt = same_front solver.learnt; packets = λ place packet is. is }
+
+pub kept_twice : (old mid new : Solver) → KeepsLearnt old mid → KeepsLearnt mid new → KeepsLearnt old new
+kept_twice old mid new a b = record {
+  held = front_twice old.held mid.held new.held a.held b.held;
+  steps = front_twice old.steps mid.steps new.steps a.steps b.steps;
+  learnt = front_twice old.learnt mid.learnt new.learnt a.learnt b.learnt;
+  packets = λ place packet is. b.packets place packet (a.packets place packet is);
+}
+
+-- a call that takes nothing away keeps what was learnt
+pub kept_by : (old new : Solver) → Keeps old new → KeepsLearnt old new
+kept_by old new keeps = record {
+  held = keeps.held;
+  steps = keeps.steps;
+  learnt = keeps.learnt;
+  packets = λ place packet is. ap (λ known. packet_at known place) keeps.packets ∙ is;
+}
+
+-- and so does one that loads a job
+pub kept_loaded : (old : Solver) (clauses : List (List ℕ)) → KeepsLearnt old (loaded old clauses)
+kept_loaded old clauses = record {
+  held = record { more = tagged (old.bound + 1) clauses; is = refl };
+  steps = same_front old.steps;
+  learnt = same_front old.learnt;
+  packets = λ place packet is. is;
+}

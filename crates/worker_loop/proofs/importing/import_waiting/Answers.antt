@@ -1,0 +1,22 @@
+use Rattle.std.proofs.Common.{◌≡◌, ◌+◌, ◌-◌, arith, subst}
+use Rattle.worker_loop.specs.Importing.{KnowsReadUpTo}
+use Rattle.worker_loop.proofs.Imports.{imported_none, imported_twice, none_up_to, only_kept, takable_kept}
+use Rattle.worker_loop.proofs.importing.import_waiting.Goals as goal
+
+pub loop-place-init : goal.loop-place-init
+loop-place-init c = record { imported = imported_none c.args.bench.now; known = none_up_to c.args.bench.now; within = omega arith }
+
+pub import_one-requires-clause-only : goal.import_one-requires-clause-only
+import_one-requires-clause-only c = only_kept c.args.bench.now c.loop-place.bench c.loop-place.invariant.imported c.requires.only
+
+pub import_one-requires-clause-takable : goal.import_one-requires-clause-takable
+import_one-requires-clause-takable c = takable_kept c.args.bench.now c.loop-place.bench c.loop-place.invariant.imported c.requires.takable
+
+pub loop-place-preserved : goal.loop-place-preserved
+loop-place-preserved c =
+    let before : c.loop-place.place ≡ c.loop-place.place + 1 - 1 = omega arith in
+    record {
+      imported = imported_twice c.args.bench.now c.loop-place.bench c.import_one.new.bench c.loop-place.invariant.imported c.import_one.ensures.imported;
+      known = c.in_ok-import_one.ensures.known (subst (KnowsReadUpTo c.loop-place.bench) before c.loop-place.invariant.known);
+      within = omega (arith, c.loop-place-test.true);
+    }

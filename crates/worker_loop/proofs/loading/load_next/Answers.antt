@@ -1,0 +1,8 @@
+use Rattle.std.proofs.lemmas.Result.{on_ok_weaker}
+use Rattle.worker_loop.proofs.Fitting.{next_fits}
+use Rattle.worker_loop.proofs.loading.load_next.Goals as goal
+
+pub returns-clause-fits : goal.returns-clause-fits
+returns-clause-fits c =
+    on_ok_weaker c.load.result
+    (λ loads journal fits found. next_fits c.args.bench.now c.load.new.self journal c.args.segment.now c.items.result.now c.items.ensures loads fits found) c.load.ensures.ok

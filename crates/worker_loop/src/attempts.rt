@@ -1,0 +1,118 @@
+//! Attempts.
+
+ghost use Rattle.std.specs.Prelude.{◌≡◌, ◌<◌, ◌≤◌, None, length, List, IfOk, IfSome, OnOk};
+ghost use Rattle.entry_core.specs.declared.entries.Entry.{Entry};
+ghost use Rattle.search_core.specs.declared.rounds.Round.TheVariants.{Paused};
+ghost use Rattle.search_core.specs.Refutations.{IsRefutation};
+ghost use Rattle.search_core.specs.Solving.{Keeps};
+ghost use Rattle.worker_loop.specs.Asked.{IsEndOver, IsRightOver};
+ghost use Rattle.worker_loop.specs.Fits.{AreLearnt, FitsAttempt, FitsLegal};
+ghost use Rattle.worker_loop.specs.Rounds.{HasLearntOn, IsOfLearnt, IsRightRound};
+
+use crate::attempt::Attempt;
+use crate::bench::Bench;
+use crate::ends::End;
+use crate::lessons::copies_of;
+use crate::rounds::make_round;
+use entry_core::Answer;
+use sat_base::Cube;
+use search_core::Round;
+use std::alloc::{AllocError, Global};
+use std::sync::Arc;
+use trace_core::Steps;
+use trace_trim::trim;
+
+/// Rounds until the attempt has its answer, or has learnt as many clauses as the budget allows.
+pub(crate) fn pursue(
+    alloc: Global,
+    bench: &mut Bench,
+    attempt: &mut Attempt,
+    budget: u64,
+) -> Result<End, AllocError>
+    requires left { length attempt.old.learnt.items < budget }
+    requires fits { FitsLegal bench.old }
+    requires learnt { AreLearnt bench.old.session.solver attempt.old.cube attempt.old.learnt.items }
+    ensures end { IfOk result (IsEndOver bench.old.session.solver.inputs attempt.old.cube budget) }
+    ensures learnt { OnOk result (HasLearntOn bench.old.session.solver bench.new.session.solver attempt.old attempt.new budget) }
+    ensures spent { IfOk result (IsOfLearnt bench.new.session.solver attempt.new) }
+    ensures fits { OnOk result ((journal : List Entry) → FitsAttempt bench.old attempt.old journal → FitsAttempt bench.new attempt.new journal) }
+    ensures keeps { Keeps bench.old.session.solver bench.new.session.solver }
+    ensures bench { bench.new ≡ record bench.old { session = bench.new.session } }
+{
+    'rounds: loop {
+        let round = make_round(bench, attempt, budget)?;
+        match end_of(alloc, bench, attempt, budget, round)? {
+            Some(end) => return Ok(end),
+            None => {}
+        }
+    }
+}
+
+/// The end of an attempt after a round, none where it goes on: an answer with its trace, or copies of exactly the
+/// clauses that it learnt, where these are as many as the budget allows.
+pub(crate) fn end_of(
+    alloc: Global,
+    bench: &Bench,
+    attempt: &Attempt,
+    budget: u64,
+    round: Round,
+) -> Result<Option<End>, AllocError>
+    requires fits { FitsLegal bench.now }
+    requires learnt { AreLearnt bench.now.session.solver attempt.now.cube attempt.now.learnt.items }
+    requires few { length attempt.now.learnt.items ≤ budget }
+    requires right { IsRightRound bench.now.session.solver attempt.now.cube round }
+    ensures end { IfOk result (λ end. IfSome end (IsEndOver bench.now.session.solver.inputs attempt.now.cube budget)) }
+    ensures learnt { IfOk result (λ end. IfSome end (IsOfLearnt bench.now.session.solver attempt.now)) }
+    ensures goes_on { IfOk result (λ end. end ≡ None → length attempt.now.learnt.items < budget) }
+    ensures paused { IfOk result (λ end. end ≡ None → round ≡ Paused) }
+{
+    match round {
+        Round::Model(model) => {
+            let answer = Arc::new(alloc, Answer::Model(model))?;
+            Ok(Some(End::Answered(answer)))
+        }
+        Round::Refuted(part, number) => {
+            let answer = Arc::new(alloc, traced(alloc, bench, &attempt.cube, part, number)?)?;
+            Ok(Some(End::Answered(answer)))
+        }
+        Round::Paused => spent(alloc, bench, attempt, budget),
+    }
+}
+
+// Copies of exactly the clauses that the attempt learnt, where these are as many as the budget allows.
+fn spent(
+    alloc: Global,
+    bench: &Bench,
+    attempt: &Attempt,
+    budget: u64,
+) -> Result<Option<End>, AllocError>
+    requires learnt { AreLearnt bench.now.session.solver attempt.now.cube attempt.now.learnt.items }
+    requires few { length attempt.now.learnt.items ≤ budget }
+    ensures end { IfOk result (λ end. IfSome end (IsEndOver bench.now.session.solver.inputs attempt.now.cube budget)) }
+    ensures learnt { IfOk result (λ end. IfSome end (IsOfLearnt bench.now.session.solver attempt.now)) }
+    ensures goes_on { IfOk result (λ end. end ≡ None → length attempt.now.learnt.items < budget) }
+{
+    if (attempt.learnt.len() as u64) < budget {
+        return Ok(None);
+    }
+    let copies = copies_of(alloc, bench.session.steps(), &attempt.learnt)?;
+    Ok(Some(End::Spent(Arc::new(alloc, copies)?)))
+}
+
+// The refuted part with its trace: what the own step of its negation rests on, out of the packets that were read and the
+// session's own steps. It takes the time of those steps and hints, times the logarithm of their number, and none for the
+// other steps of the session.
+fn traced(
+    alloc: Global,
+    bench: &Bench,
+    cube: &Cube,
+    part: Cube,
+    number: u64,
+) -> Result<Answer, AllocError>
+    requires fits { FitsLegal bench.now }
+    requires refuted { IsRefutation bench.now.session.solver.inputs bench.now.session.solver.steps cube.now part number }
+    ensures { IfOk result (IsRightOver bench.now.session.solver.inputs cube.now) }
+{
+    let steps = trim(alloc, &bench.packets, bench.session.steps(), number)?;
+    Ok(Answer::Refuted(part, Steps::of(steps)))
+}
