@@ -19,9 +19,11 @@ use Rattle.board_core.specs.declared.board.Board.TheInside.{Inside}
 use Rattle.board_core.specs.declared.index.JobState.{JobState}
 use Rattle.board_core.specs.Index.{or_new, state_at, rank_of, room, IsIndexOf, IsOrderly}
 use Rattle.board_core.specs.Kept.{AreFew, IsKept}
-use Rattle.board_core.proofs.Readings.{read_on, legal_push}
+use Rattle.entry_core.proofs.Inputs.{item_found}
+use Rattle.entry_core.proofs.LegalEntries.{legal_push}
+use Rattle.board_core.proofs.Readings.{read_on}
 use Rattle.board_core.proofs.Verdicts.{entry_by}
-use Rattle.board_core.proofs.Opened.{at_place, open_ended}
+use Rattle.board_core.proofs.Opened.{open_ended}
 use Rattle.board_core.proofs.Indexed.{orderly_on, orderly_begun, within}
 use Rattle.board_core.proofs.Changes.{same_segments}
 use Rattle.board_core.proofs.Ended.{IsEnd, Ends, index_begun, index_ended}
@@ -87,7 +89,7 @@ pub record IsAtWork (a : Inside) (number : ℕ) (begun : Attempt) : Type 0 where
 
 pub at_work : (a : Inside) (caller number : ℕ) (begun : Attempt) → IsKept a → IsRunning a.journal.items caller number begun → IsAtWork a number begun
 at_work a caller number begun kept running =
-    let at = at_place (attempts a.journal.items) number begun running.found in
+    let at = item_found (attempts a.journal.items) number begun running.found in
     let place = at.0 in
     let lt = slice_get_within (attempts a.journal.items) (number - 1) begun at.1 in
     let all = attempts_number a kept in

@@ -18,7 +18,7 @@ use Rattle.board_core.specs.declared.index.Ending.TheVariants as ending
 use Rattle.board_core.specs.Index.{answered_by, verdict_in, IsEndingOf, AreNumberedFrom, IsOrderly}
 use Rattle.board_core.proofs.Readings.{unread, read_on}
 use Rattle.board_core.proofs.Verdicts.{count_same, attempt_kept}
-use Rattle.board_core.proofs.Opened.{at_place}
+use Rattle.entry_core.proofs.Inputs.{item_found}
 
 get_in_front : {X : Type 0} (xs ys : List X) (i : ℕ) → i < length xs → slice_get (xs ++ ys) i ≡ slice_get xs i
 get_in_front [] ys i lt = absurd (omega arith)
@@ -160,5 +160,5 @@ spent_begun journal entry new job orderly begins spends =
 -- an attempt that was begun has a number among theirs
 pub within : (journal : List Entry) (number : ℕ) (begun : Attempt) → attempt journal number ≡ Some begun → number ≤ length (attempts journal)
 within journal number begun is =
-    let at = at_place (attempts journal) number begun is in
+    let at = item_found (attempts journal) number begun is in
     let lt = slice_get_within (attempts journal) (number - 1) begun at.1 in let e = at.0 in omega arith

@@ -20,7 +20,8 @@ use Rattle.board_core.specs.declared.index.JobState.{JobState}
 use Rattle.board_core.specs.Index.{new_job, state_at, rank_of, ranks_from, IsIndexOf, IsOrderly, room, IsCountable}
 use Rattle.board_core.specs.Kept.{state_of, AreFew, IsKept}
 use Rattle.board_core.specs.Replies.{IsUnsettled, HasRoomFor}
-use Rattle.board_core.proofs.Readings.{legal_push, read_on}
+use Rattle.entry_core.proofs.LegalEntries.{legal_push}
+use Rattle.board_core.proofs.Readings.{read_on}
 use Rattle.board_core.proofs.Verdicts.{entry_by}
 use Rattle.board_core.proofs.Indexed.{orderly_on}
 use Rattle.board_core.proofs.Changes.{IsBase, same_segments, same_packets, same_attempts, index_closed, index_cancelled, index_grown, index_shared, index_added, jobs_push, inputs_push, literals_push}

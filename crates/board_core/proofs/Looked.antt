@@ -1,13 +1,13 @@
 -- Looks at single jobs.
-use Rattle.std.proofs.Common.{◌≡◌, ℕ, ◌-◌, ◌≤◌, Bool, true, false, cond, Option, Some, None, List, length, refl, subst, arith, ◌==◌}
-use Rattle.std.specs.Prelude.{slice_get, IsSome}
-use Rattle.std.proofs.lemmas.Bool.Decides.{nat_tests}
+use Rattle.std.proofs.Common.{◌≡◌, ℕ, ◌-◌, ◌≤◌, Option, Some, None, List, length, refl, subst, arith}
+use Rattle.std.specs.Prelude.{IsSome}
 use Rattle.std.proofs.lemmas.Option.{slice_get_within}
 use Rattle.trace_core.specs.Known.{item_at}
 use Rattle.entry_core.specs.declared.answers.Outcome.{Outcome}
 use Rattle.entry_core.specs.declared.answers.Verdict.{Verdict}
 use Rattle.entry_core.specs.Outcomes.{outcome_of}
 use Rattle.entry_core.specs.Settled.{settled}
+use Rattle.entry_core.proofs.Inputs.{item_found}
 use Rattle.board_core.specs.declared.board.Board.TheInside.{Inside}
 use Rattle.board_core.specs.declared.index.Ending.{Ending}
 use Rattle.board_core.specs.declared.index.JobState.{JobState}
@@ -16,14 +16,13 @@ use Rattle.board_core.specs.Kept.{state_of, IsKept}
 use Rattle.board_core.specs.Replies.{IsJob, HasOutcome, HasVerdict, IsSame}
 
 -- an item stands at a place from 1 to the length
-pub item_place : {X : Type 0} (items : List X) (place : ℕ) (item : X) → item_at items place ≡ Some item → (1 ≤ place) × (place ≤ length items)
-item_place items place item is = guarded (place == 0) refl is
-  where
-    guarded : (b : Bool) → (place == 0) ≡ b → cond b None (slice_get items (place - 1)) ≡ Some item → (1 ≤ place) × (place ≤ length items)
-    guarded true zero_is h = absurd (cc)
-    guarded false zero_is h =
-        let some : 1 ≤ place = grind (arith, nat_tests) in
-        let lt = slice_get_within items (place - 1) item h in (some, omega arith)
+pub item_place : {X : Type 0} (items : List X) (place : ℕ) (item : X) →
+    item_at items place ≡ Some item → (1 ≤ place) × (place ≤ length items)
+item_place items place item is =
+    let at = item_found items place item is in
+    let lt = slice_get_within items (place - 1) item at.1 in
+    let from = at.0 in
+    (omega arith, omega arith)
 
 pub job_there : (a : Inside) (job : ℕ) (state : JobState) → IsKept a → item_at a.index.jobs.items job ≡ Some state → IsJob (state_of a) job
 job_there a job state kept is =

@@ -5,9 +5,10 @@ use Rattle.std.specs.List.{list_any}
 use Rattle.std.proofs.lemmas.Bool.Decides.{nat_tests}
 use Rattle.std.proofs.lemmas.List.Folds.{list_any-append, list_any_none}
 use Rattle.std.proofs.lemmas.List.Sums.{sum_by-cons, sum_by_push}
-use Rattle.trace_core.specs.Known.{item_at}
 use Rattle.entry_core.specs.declared.entries.Entry.{Entry}
 use Rattle.entry_core.specs.Attempts.{Attempt, begun_by, attempts, attempt, ended_by, ended, is_open}
+use Rattle.entry_core.proofs.Inputs.{item_found}
+use Rattle.entry_core.proofs.LegalEntries.{or_yes}
 use Rattle.board_core.specs.Index.{AreNumberedFrom}
 use Rattle.board_core.proofs.Readings.{unread, read_on}
 
@@ -70,17 +71,6 @@ not_or true c is = refl
 not_or false true is = absurd (cc)
 not_or false false is = refl
 
-or_yes : (b : Bool) → not (b || (true || false)) ≡ false
-or_yes true = refl
-or_yes false = refl
-
-pub at_place : (begun : List Attempt) (number : ℕ) (found : Attempt) → item_at begun number ≡ Some found → (1 + (number - 1) ≡ number) × (slice_get begun (number - 1) ≡ Some found)
-at_place begun number found is = guarded (number == 0) refl is
-  where
-    guarded : (b : Bool) → (number == 0) ≡ b → cond b None (slice_get begun (number - 1)) ≡ Some found → (1 + (number - 1) ≡ number) × (slice_get begun (number - 1) ≡ Some found)
-    guarded true zero_is h = absurd (cc)
-    guarded false zero_is h = (grind (arith, nat_tests), h)
-
 -- the number of an attempt is its place
 pub number_found : (begun : List Attempt) (first place : ℕ) (found : Attempt) → AreNumberedFrom first begun → slice_get begun place ≡ Some found → found.number ≡ first + place
 number_found [] first place found numbered is = absurd (cc)
@@ -89,7 +79,7 @@ number_found (attempt ∷ rest) first (suc place) found numbered is = number_fou
 
 pub number_is : (journal : List Entry) (number : ℕ) (found : Attempt) → AreNumberedFrom 1 (attempts journal) → attempt journal number ≡ Some found → found.number ≡ number
 number_is journal number found numbered is =
-    let at = at_place (attempts journal) number found is in
+    let at = item_found (attempts journal) number found is in
     number_found (attempts journal) 1 (number - 1) found numbered at.1 ∙ at.0
 
 test_other : (n k : ℕ) → k ≢ n → (n == k) ≡ false
@@ -107,7 +97,7 @@ pub open_ended : (test : ℕ → Bool) (journal : List Entry) (entry : Entry) (n
     → AreNumberedFrom 1 (attempts journal) → attempt journal number ≡ Some begun → is_open journal begun ≡ true
     → open_where test (attempts (journal ++ entry ∷ [])) (ended (journal ++ entry ∷ [])) + cond (test begun.job) 1 0 ≡ open_where test (attempts journal) (ended journal)
 open_ended test journal entry number begun none ends numbered found is =
-    let at = at_place (attempts journal) number begun found in
+    let at = item_found (attempts journal) number begun found in
     let own : begun.number ≡ number = number_is journal number begun numbered found in
     let opened : ℕ → Bool = λ n. not (list_any (λ k. k == n) (ended journal)) in
     let remains : ℕ → Bool = λ n. not (list_any (λ k. k == n) (ended journal ++ number ∷ [])) in

@@ -1,5 +1,5 @@
 -- Readings of a journal after one more entry.
-use Rattle.std.proofs.Common.{◌≡◌, ◌∙◌, ℕ, suc, ◌+◌, ◌≤◌, Bool, true, false, cond, not, Option, Some, None, List, [], ◌∷◌, ◌++◌, length, refl, ap, sym, arith, append_assoc, length-append, subst, nat_lt, ◌==◌, eqb, ◌||◌}
+use Rattle.std.proofs.Common.{◌≡◌, ◌∙◌, ℕ, suc, ◌+◌, ◌≤◌, Bool, true, false, cond, not, Option, Some, None, List, [], ◌∷◌, ◌++◌, length, refl, ap, sym, arith, append_assoc, length-append, nat_lt, ◌==◌, eqb, ◌||◌}
 use Rattle.std.specs.Prelude.{filter_map, find, position, nat_le, option_map}
 use Rattle.std.specs.List.{list_any, cons_option, position_or_len}
 use Rattle.std.proofs.lemmas.Bool.Decides.{nat_tests}
@@ -14,7 +14,6 @@ use Rattle.entry_core.specs.declared.rules.Rules.{Rules}
 use Rattle.entry_core.specs.Journal.{is_closing, is_closed, closing_place}
 use Rattle.entry_core.specs.Attempts.{is_attempt_at, spent_attempts}
 use Rattle.entry_core.specs.Settled.{Decision, decisions, cancelled, starved, or_else, given_if, overtaken, standing, settled_after, settled}
-use Rattle.entry_core.specs.Legal.{IsAllowed, IsLegalAfter, IsLegal}
 
 -- an entry that a reading doesn't see
 pub unread : {X : Type 0} (read : Entry → Option X) (journal : List Entry) (entry : Entry) → read entry ≡ None → filter_map read (journal ++ entry ∷ []) ≡ filter_map read journal
@@ -25,19 +24,6 @@ unread read journal entry none =
 pub read_on : {X : Type 0} (read : Entry → Option X) (journal : List Entry) (entry : Entry) (x : X) → read entry ≡ Some x → filter_map read (journal ++ entry ∷ []) ≡ filter_map read journal ++ x ∷ []
 read_on read journal entry x some =
     filter_map-append read journal (entry ∷ []) ∙ ap (λ o. filter_map read journal ++ cons_option o []) some
-
--- a journal is legal with one allowed entry more
-legal_after : (rules : Rules) (before journal : List Entry) (entry : Entry) → IsLegalAfter rules before journal → IsAllowed rules (before ++ journal) entry.caller entry.event
-    → IsLegalAfter rules before (journal ++ entry ∷ [])
-legal_after rules before [] entry legal allowed = (subst (λ (all : List Entry). IsAllowed rules all entry.caller entry.event) (append-nil before) allowed, tt)
-legal_after rules before (first ∷ rest) entry legal allowed = (
-  legal.0,
-  legal_after rules (before ++ first ∷ []) rest entry legal.1
-      (subst (λ (all : List Entry). IsAllowed rules all entry.caller entry.event) (sym (append_assoc before (first ∷ []) rest)) allowed),
-)
-
-pub legal_push : (rules : Rules) (journal : List Entry) (entry : Entry) → IsLegal rules journal → IsAllowed rules journal entry.caller entry.event → IsLegal rules (journal ++ entry ∷ [])
-legal_push rules journal entry legal allowed = legal_after rules [] journal entry legal allowed
 
 pub or_none : (given : Option Verdict) → or_else given None ≡ given
 or_none None = refl

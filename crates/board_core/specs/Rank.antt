@@ -1,10 +1,13 @@
 -- Who goes first among the entrants of a tournament.
-use Rattle.std.specs.Prelude.{◌≡◌, ◌==◌, ◌&&◌, ◌||◌, nat_lt, Bool, false, if◌then◌else◌, List, All, Contains, Option, None, Some}
+use Rattle.std.specs.Prelude.{◌≡◌, ◌==◌, ◌&&◌, ◌||◌, nat_lt, Bool, false, if◌then◌else◌}
+use Rattle.std.specs.Prelude.{List, All, Contains, Option, None, Some}
 use Rattle.board_core.specs.declared.rank.Rank.{Rank}
 
 -- fewer open attempts go first, then the smaller number
 abbrev pub goes_before : Rank → Rank → Bool
-goes_before rank rival = nat_lt rank.open_now rival.open_now || (rank.open_now == rival.open_now && nat_lt rank.job rival.job)
+goes_before rank rival =
+    nat_lt rank.open_now rival.open_now
+    || (rank.open_now == rival.open_now && nat_lt rank.job rival.job)
 
 -- the winner between two of whom either may not wait
 abbrev pub earlier_of : Option Rank → Option Rank → Option Rank

@@ -97,9 +97,13 @@ pub record HasRoomFor (board : State) (segment : Segment) : Type 0 where
 -- Each refusal comes where those before it don't.
 abbrev pub IsAddFault : State → Segment → AddFault → Type 0
 IsAddFault board segment (add.Closed place) = closing_place board.journal ≡ Some place
-IsAddFault board segment add.TooManyJobs = (closing_place board.journal ≡ None) × (jobs board.journal ≡ most_jobs)
-IsAddFault board segment add.TooManyClauses = HasRoomForJob board × (most_clauses < length (inputs board.journal) + length segment.clauses)
-IsAddFault board segment add.TooManyLiterals = HasRoomForClauses board segment × (most_literals < literals board.journal + segment_literals segment)
+IsAddFault board segment add.TooManyJobs =
+    (closing_place board.journal ≡ None) × (jobs board.journal ≡ most_jobs)
+IsAddFault board segment add.TooManyClauses =
+    HasRoomForJob board × (most_clauses < length (inputs board.journal) + length segment.clauses)
+IsAddFault board segment add.TooManyLiterals =
+    HasRoomForClauses board segment
+    × (most_literals < literals board.journal + segment_literals segment)
 IsAddFault board segment add.Memory = HasRoomFor board segment
 
 -- the job of an attempt, 0 where there is none

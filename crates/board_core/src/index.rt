@@ -85,8 +85,8 @@ impl Index {
         }
     }
 
-    /// Takes the end of an attempt at a job, which stands like this then. A job may have at most so many
-    /// attempts.
+    /// Takes the end of an attempt at a job, which stands like this then. A job may have at most so
+    /// many attempts.
     pub(crate) fn end(&mut self, most: u32, job: u32, state: JobState)
         requires { MayEnd self.old job }
         ensures jobs { self.new.jobs.items ≡ slice_set self.old.jobs.items (job - 1) state }

@@ -7,9 +7,9 @@ mod instance;
 mod search;
 mod units;
 
+use crate::learning::instance::{Row, conflict_after, learn_once};
 use analyze::Scratch;
 use anyhow::{Context, Result, ensure};
-use instance::{Row, conflict_after, learn_once};
 use sat_base::limits::GREATEST_VARIABLE;
 use std::alloc::{AllocError, Global};
 use std::time::CpuClock;

@@ -46,7 +46,7 @@ fn main(rt: HostRuntime) -> Result<()> {
         "learning" => learning::measure(&rt, size_at(&rt, 2)?, size_at(&rt, 3)?),
         "trimming" => trimming::measure(&rt, size_at(&rt, 2)?),
         "board" => board::measure(&rt, size_at(&rt, 2)?),
-        "lock" => lock::measure(&rt, size_at(&rt, 2)?),
+        "lock" => lock::measure(&rt, rt.alloc(), size_at(&rt, 2)?),
         _ => {
             println!(rt; "{USAGE}")?;
             Ok(())

@@ -4,8 +4,8 @@ ghost use Rattle.std.specs.Prelude.{◌≡◌, ◌≤◌, IfOk, IfSome, IsTrue};
 ghost use Rattle.propagate.specs.Store.{AreWithin};
 ghost use Rattle.tarmo_bench.specs.Prepared.{IsPrepared};
 
-use super::search::{begin, search};
-use super::units::Units;
+use crate::learning::search::{begin, search};
+use crate::learning::units::Units;
 use analyze::{Learnt, Scratch, learn};
 use propagate::Store;
 use sat_base::{Clause, Lit, Ref};

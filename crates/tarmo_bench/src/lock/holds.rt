@@ -2,7 +2,7 @@
 ghost use Rattle.std.specs.Prelude.{◌≡◌, ◌<◌, ◌≤◌, ℕ, true, [], length, slice_index_or, All};
 ghost use Rattle.turn_lock.specs.Passes.{PassView, IsOf};
 
-use super::log::Log;
+use crate::lock::log::Log;
 use std::alloc::Global;
 use std::rt::Clock;
 use std::sync::{Mutex, Wait};
