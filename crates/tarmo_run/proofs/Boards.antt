@@ -18,8 +18,8 @@ use Rattle.entry_core.proofs.LongerJournals.{longer_journal_keeps, segments-appe
 use Rattle.board_core.specs.State.{State, entered}
 use Rattle.board_core.proofs.Readings.{unread}
 use Rattle.board_core.proofs.Changes.{same_attempts}
-use Rattle.attempt_core.specs.Fits.{Fits}
-use Rattle.search_core.specs.Solver.{Solver}
+use Rattle.worker_loop.specs.Fits.{Fits}
+use Rattle.session.specs.Solver.{Solver}
 use Rattle.worker_loop.specs.Working.{HasAttemptsMore, IsOfAttempt, IsResting}
 use Rattle.tarmo_run.specs.Block.{AreBlocks, IsBlockOf}
 use Rattle.tarmo_run.specs.Growth.{HasJobsMore, HasNoJobMore, IsLonger}

@@ -2,7 +2,7 @@
 use Rattle.std.proofs.Common.{◌≡◌, ◌∙◌, ◌≤◌, List, [], ◌++◌, length, ap, sym, subst, arith}
 use Rattle.entry_core.specs.declared.segments.Segment.{Segment}
 use Rattle.board_core.specs.State.{State}
-use Rattle.attempt_core.specs.Fits.{Fits}
+use Rattle.worker_loop.specs.Fits.{Fits}
 use Rattle.worker_loop.specs.Working.{HasAttemptsMore, IsResting}
 use Rattle.tarmo_run.specs.declared.client.Client.{Client}
 use Rattle.tarmo_run.specs.declared.desk.Desk.{Desk}

@@ -2,7 +2,7 @@
 use Rattle.std.specs.Prelude.{◌≡◌, ℕ, Bool, Option, List, []}
 use Rattle.entry_core.specs.declared.rules.Rules.{Rules}
 use Rattle.entry_core.specs.Settled.{cancelled}
-use Rattle.attempt_core.specs.Fits.{Fits}
+use Rattle.worker_loop.specs.Fits.{Fits}
 use Rattle.worker_loop.specs.Working.{IsResting}
 use Rattle.icnf_text.specs.declared.statements.Numbered.{Numbered}
 use Rattle.tarmo_run.specs.declared.desk.Desk.{Desk}

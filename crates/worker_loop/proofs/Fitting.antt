@@ -21,10 +21,10 @@ use Rattle.entry_core.specs.Legal.{IsAllowed, IsLegal, IsLegalAfter}
 use Rattle.entry_core.proofs.Inputs.{inputs_of_none, inputs_of_one_more}
 use Rattle.entry_core.proofs.Limits.{few_jobs, few_inputs}
 use Rattle.entry_core.proofs.LongerJournals.{segments-append, packets-append, inputs_kept}
-use Rattle.search_core.specs.Solver.{Solver, packet_at}
-use Rattle.search_core.specs.Loading.{loaded, tagged}
-use Rattle.search_core.specs.Searching.{IsFront}
-use Rattle.search_core.specs.Solving.{Keeps}
+use Rattle.session.specs.Solver.{Solver, packet_at}
+use Rattle.session.specs.Loading.{loaded, tagged}
+use Rattle.session.specs.Fronts.{IsFront}
+use Rattle.session.specs.Solving.{Keeps}
 use Rattle.session.specs.Session.{SessionView, no_inputs}
 use Rattle.worker_loop.specs.declared.bench.Bench.{Bench}
 use Rattle.worker_loop.specs.Fits.{Fits, read_by}

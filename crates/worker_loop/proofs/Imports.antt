@@ -24,12 +24,12 @@ use Rattle.trace_trim.proofs.Zips.{item_at-map}
 use Rattle.entry_core.specs.declared.entries.Entry.{Entry}
 use Rattle.entry_core.specs.Journal.{inputs, inputs_of, clauses_of, packets}
 use Rattle.entry_core.proofs.SharedSteps.{shared_steps_follow}
-use Rattle.search_core.specs.Solver.{Solver, packet_at}
-use Rattle.search_core.specs.Solver.{clauses_of as clauses_in}
-use Rattle.search_core.specs.Searching.{IsFront}
-use Rattle.search_core.specs.Sharing.{HasTaken}
-use Rattle.search_core.proofs.Settled.{same_front, front_twice}
-use Rattle.search_core.proofs.UpTo.{among_inputs}
+use Rattle.session.specs.Solver.{Solver, packet_at}
+use Rattle.session.specs.Solver.{clauses_of as clauses_in}
+use Rattle.session.specs.Fronts.{IsFront}
+use Rattle.session.specs.Sharing.{HasTaken}
+use Rattle.session.proofs.Settled.{same_front, front_twice}
+use Rattle.session.proofs.UpTo.{among_inputs}
 use Rattle.session.specs.Session.{SessionView}
 use Rattle.session.proofs.Names.{place_keeps}
 use Rattle.session.proofs.Takable.{takable_over}

@@ -8,11 +8,11 @@ use Rattle.trace_core.specs.Known.{item_at}
 use Rattle.trace_core.specs.declared.derivation.Step.{Step}
 use Rattle.entry_core.specs.Journal.{cube_of}
 use Rattle.entry_core.specs.Right.{AreLiterals}
-use Rattle.search_core.specs.declared.rounds.Round.{Round}
-use Rattle.search_core.specs.declared.rounds.Round.TheVariants.{Model, Refuted, Paused}
-use Rattle.search_core.specs.Rounds.{step_of_round}
-use Rattle.search_core.specs.Solver.{Solver, IsSound, packet_at}
-use Rattle.search_core.specs.Solving.{Ends, Keeps, Solves}
+use Rattle.session.specs.declared.rounds.Round.{Round}
+use Rattle.session.specs.declared.rounds.Round.TheVariants.{Model, Refuted, Paused}
+use Rattle.session.specs.Rounds.{step_of_round}
+use Rattle.session.specs.Solver.{Solver, IsSound, packet_at}
+use Rattle.session.specs.Solving.{Ends, Keeps, Solves}
 use Rattle.worker_loop.specs.declared.attempt.Attempt.{Attempt}
 use Rattle.worker_loop.specs.declared.bench.Bench.{Bench}
 use Rattle.worker_loop.specs.Asked.{clauses_at}

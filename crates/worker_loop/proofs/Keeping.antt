@@ -1,9 +1,9 @@
 -- What was learnt is kept through one call after another.
 use Rattle.std.proofs.Common.{ℕ, ◌+◌, List, refl, ap, ◌∙◌}
-use Rattle.search_core.specs.Loading.{loaded, tagged}
-use Rattle.search_core.specs.Solver.{Solver, packet_at}
-use Rattle.search_core.specs.Solving.{Keeps}
-use Rattle.search_core.proofs.Settled.{same_front, front_twice}
+use Rattle.session.specs.Loading.{loaded, tagged}
+use Rattle.session.specs.Solver.{Solver, packet_at}
+use Rattle.session.specs.Solving.{Keeps}
+use Rattle.session.proofs.Settled.{same_front, front_twice}
 use Rattle.worker_loop.specs.Kept.{KeepsLearnt}
 
 pub keeps_itself : (solver : Solver) → Keeps solver solver

@@ -12,10 +12,10 @@ use Rattle.trace_core.specs.Trace.{known_of}
 use Rattle.trace_core.proofs.Items.{item_at-append}
 use Rattle.trace_core.specs.declared.derivation.Step.{Step}
 use Rattle.entry_core.specs.Right.{AreLiterals, IsSpent, Subsumes}
-use Rattle.search_core.specs.Solver.{Solver, IsSound, IsStep, clauses_of}
-use Rattle.search_core.specs.Rounds.{AreNamed, AreNew}
-use Rattle.search_core.specs.Solving.{Learns}
-use Rattle.search_core.proofs.Lists.{map_same}
+use Rattle.session.specs.Solver.{Solver, IsSound, IsStep, clauses_of}
+use Rattle.session.specs.Rounds.{AreNamed, AreNew}
+use Rattle.session.specs.Solving.{Learns}
+use Rattle.session.proofs.Lists.{map_same}
 use Rattle.worker_loop.specs.Asked.{clause_at, clauses_at}
 use Rattle.worker_loop.specs.Fits.{AreLearnt}
 

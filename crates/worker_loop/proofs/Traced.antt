@@ -21,8 +21,8 @@ use Rattle.entry_core.specs.Journal.{inputs, inputs_of}
 use Rattle.entry_core.specs.Legal.{IsLegal}
 use Rattle.entry_core.proofs.Inputs.{inputs_of_agree, inputs_of_front}
 use Rattle.entry_core.proofs.SharedPackets.{packets_are_ok}
-use Rattle.search_core.specs.Solver.{Solver, IsSound, IsStep, packet_at, shared_by}
-use Rattle.search_core.specs.Refutations.{IsRefutation}
+use Rattle.session.specs.Solver.{Solver, IsSound, IsStep, packet_at, shared_by}
+use Rattle.session.specs.Refutations.{IsRefutation}
 use Rattle.session.proofs.Names.{shared_at}
 use Rattle.worker_loop.specs.declared.bench.Bench.{Bench}
 use Rattle.worker_loop.specs.Asked.{IsRightOver}

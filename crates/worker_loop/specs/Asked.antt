@@ -9,7 +9,7 @@ use Rattle.trace_core.specs.declared.derivation.Step.{Step}
 use Rattle.entry_core.specs.Right.{IsSpent}
 use Rattle.entry_core.specs.declared.answers.Answer.{Answer}
 use Rattle.entry_core.specs.declared.answers.Answer.TheVariants as answer
-use Rattle.search_core.specs.Solver.{clauses_of}
+use Rattle.session.specs.Solver.{clauses_of}
 use Rattle.worker_loop.specs.declared.ends.End.{End}
 use Rattle.worker_loop.specs.declared.ends.End.TheVariants.{Answered, Spent}
 

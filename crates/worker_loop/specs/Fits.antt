@@ -10,8 +10,8 @@ use Rattle.entry_core.specs.declared.rules.Rules.{Rules}
 use Rattle.entry_core.specs.Journal.{jobs, inputs_of, cube_of, packets}
 use Rattle.entry_core.specs.Legal.{IsLegal}
 use Rattle.entry_core.specs.Right.{IsSpent}
-use Rattle.search_core.specs.Searching.{IsFront}
-use Rattle.search_core.specs.Solver.{Solver, IsStep, clauses_of, packet_at}
+use Rattle.session.specs.Fronts.{IsFront}
+use Rattle.session.specs.Solver.{Solver, IsStep, clauses_of, packet_at}
 use Rattle.worker_loop.specs.declared.bench.Bench.{Bench}
 use Rattle.worker_loop.specs.declared.attempt.Attempt.{Attempt}
 use Rattle.worker_loop.specs.Asked.{clauses_at}

@@ -3,9 +3,9 @@ use Rattle.std.specs.Prelude.{◌≡◌, ◌⊎◌, ℕ, ◌≤◌, List, Some}
 use Rattle.trace_core.specs.Known.{Known, item_at, tag_of}
 use Rattle.trace_core.specs.declared.derivation.Step.{Step}
 use Rattle.trace_trim.specs.Packed.{ends_in}
-use Rattle.search_core.specs.Searching.{IsFront}
-use Rattle.search_core.specs.Sharing.{IsTakable}
-use Rattle.search_core.specs.Solver.{packet_at}
+use Rattle.session.specs.Fronts.{IsFront}
+use Rattle.session.specs.Sharing.{IsTakable}
+use Rattle.session.specs.Solver.{packet_at}
 use Rattle.worker_loop.specs.declared.bench.Bench.{Bench}
 use Rattle.worker_loop.specs.Fits.{read_by}
 

@@ -1,8 +1,8 @@
 -- What a bench keeps from one attempt to the next.
 use Rattle.std.specs.Prelude.{◌≡◌, ℕ, List, Some}
 use Rattle.trace_core.specs.declared.derivation.Step.{Step}
-use Rattle.search_core.specs.Searching.{IsFront}
-use Rattle.search_core.specs.Solver.{Solver, packet_at}
+use Rattle.session.specs.Fronts.{IsFront}
+use Rattle.session.specs.Solver.{Solver, packet_at}
 
 -- Nothing that was learnt is lost: held clauses, own steps and learnt steps come behind those that were there, and each packet
 -- that is known stays known.

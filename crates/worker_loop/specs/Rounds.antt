@@ -2,11 +2,11 @@
 use Rattle.std.specs.Prelude.{◌≡◌, ℕ, ◌-◌, ◌≤◌, min, List, ◌++◌, length}
 use Rattle.std.specs.Arc.{arc_value}
 use Rattle.sat_base.specs.Truth.{IsModelOf}
-use Rattle.search_core.specs.declared.rounds.Round.{Round}
-use Rattle.search_core.specs.declared.rounds.Round.TheVariants.{Model, Refuted, Paused}
-use Rattle.search_core.specs.Refutations.{IsRefutation}
-use Rattle.search_core.specs.Solver.{Solver, clauses_of}
-use Rattle.search_core.specs.Solving.{Keeps, Solves}
+use Rattle.session.specs.declared.rounds.Round.{Round}
+use Rattle.session.specs.declared.rounds.Round.TheVariants.{Model, Refuted, Paused}
+use Rattle.session.specs.Refutations.{IsRefutation}
+use Rattle.session.specs.Solver.{Solver, clauses_of}
+use Rattle.session.specs.Solving.{Keeps, Solves}
 use Rattle.worker_loop.specs.declared.attempt.Attempt.{Attempt}
 use Rattle.worker_loop.specs.declared.ends.End.{End}
 use Rattle.worker_loop.specs.declared.ends.End.TheVariants.{Answered, Spent}

@@ -2,9 +2,9 @@
 
 ghost use Rattle.std.specs.Prelude.{◌≡◌, ◌<◌, ◌≤◌, None, length, List, IfOk, IfSome, OnOk};
 ghost use Rattle.entry_core.specs.declared.entries.Entry.{Entry};
-ghost use Rattle.search_core.specs.declared.rounds.Round.TheVariants.{Paused};
-ghost use Rattle.search_core.specs.Refutations.{IsRefutation};
-ghost use Rattle.search_core.specs.Solving.{Keeps};
+ghost use Rattle.session.specs.declared.rounds.Round.TheVariants.{Paused};
+ghost use Rattle.session.specs.Refutations.{IsRefutation};
+ghost use Rattle.session.specs.Solving.{Keeps};
 ghost use Rattle.worker_loop.specs.Asked.{IsEndOver, IsRightOver};
 ghost use Rattle.worker_loop.specs.Fits.{AreLearnt, FitsAttempt, FitsLegal};
 ghost use Rattle.worker_loop.specs.Rounds.{HasLearntOn, IsOfLearnt, IsRightRound};
@@ -16,7 +16,7 @@ use crate::lessons::copies_of;
 use crate::rounds::make_round;
 use entry_core::Answer;
 use sat_base::Cube;
-use search_core::Round;
+use session::Round;
 use std::alloc::{AllocError, Global};
 use std::sync::Arc;
 use trace_core::Steps;

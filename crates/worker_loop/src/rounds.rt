@@ -2,7 +2,7 @@
 
 ghost use Rattle.std.specs.Prelude.{◌≡◌, ◌++◌, ◌<◌, ◌≤◌, drop, length, All, IfOk, OnOk};
 ghost use Rattle.entry_core.specs.Right.{AreLiterals};
-ghost use Rattle.search_core.specs.Solving.{Keeps};
+ghost use Rattle.session.specs.Solving.{Keeps};
 ghost use Rattle.worker_loop.specs.Asked.{clauses_at};
 ghost use Rattle.worker_loop.specs.Fits.{AreLearnt};
 ghost use Rattle.worker_loop.specs.Rounds.{MakesRound};
@@ -10,8 +10,7 @@ ghost use Rattle.worker_loop.specs.Rounds.{MakesRound};
 use crate::attempt::Attempt;
 use crate::bench::Bench;
 use crate::lessons::own_clause;
-use search_core::Round;
-use session::Session;
+use session::{Round, Session};
 use std::alloc::AllocError;
 
 // At most so many clauses are learnt in a round.

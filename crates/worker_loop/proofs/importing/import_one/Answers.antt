@@ -4,7 +4,7 @@ use Rattle.std.proofs.lemmas.Result.{on_ok_weaker}
 use Rattle.trace_core.specs.Known.{tag_of}
 use Rattle.trace_core.specs.declared.derivation.Step.{Step}
 use Rattle.trace_trim.specs.Packed.{ends_in}
-use Rattle.search_core.specs.Solver.{packet_at}
+use Rattle.session.specs.Solver.{packet_at}
 use Rattle.worker_loop.proofs.Imports.{imported_one, known_one_more, none_there, read_at}
 use Rattle.worker_loop.proofs.importing.import_one.Goals as goal
 
