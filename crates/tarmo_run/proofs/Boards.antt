@@ -19,7 +19,8 @@ use Rattle.board_core.specs.State.{State, entered}
 use Rattle.board_core.proofs.Readings.{unread}
 use Rattle.board_core.proofs.Changes.{same_attempts}
 use Rattle.worker_loop.specs.Fits.{Fits}
-use Rattle.session.specs.Solver.{Solver}
+use Rattle.worker_loop.specs.declared.bench.Bench.{Bench}
+use Rattle.worker_loop.proofs.Fitting.{fits_longer as fits_behind}
 use Rattle.worker_loop.specs.Working.{HasAttemptsMore, IsOfAttempt, IsResting}
 use Rattle.tarmo_run.specs.Block.{AreBlocks, IsBlockOf}
 use Rattle.tarmo_run.specs.Growth.{HasJobsMore, HasNoJobMore, IsLonger}
@@ -208,16 +209,12 @@ rests_still old new entry caller is begins ends resting number own =
       };
     })
 
--- a session that fits a journal fits a longer one
-pub fits_longer : (solver : Solver) (old new : State) → IsLonger old new → Fits solver old.journal →
-    Fits solver new.journal
-fits_longer solver old new longer fits =
-    let k = keeps old new longer in
-    record {
-      added = omega (arith, fits.added, k.more_jobs);
-      inputs = fits.inputs ∙ sym (k.inputs solver.bound fits.added);
-      packets = fits.packets;
-    }
+-- a bench that fits a journal fits a longer one
+pub fits_longer : (bench : Bench) (old new : State) → IsLonger old new → Fits bench old.journal →
+    Fits bench new.journal
+fits_longer bench old new longer fits =
+    subst (λ (journal : List Entry). Fits bench journal) (sym longer.is)
+    (fits_behind bench old.journal longer.more fits)
 
 -- the inputs of a job stay
 pub inputs_stay : (old new : State) (job : ℕ) → IsLonger old new → job ≤ jobs old.journal →

@@ -27,14 +27,13 @@ counted_longer writer old new longer counted =
 
 -- jobs came
 pub between_added : (old new : Desk) → HasJobsMore old.board new.board →
-    AreWithinVariables (clauses_read new.client new.board) → new.session ≡ old.session →
+    AreWithinVariables (clauses_read new.client new.board) → new.bench ≡ old.bench →
     new.writer ≡ old.writer → IsBetweenPieces old → IsBetweenPieces new
-between_added old new more within session writer between = record {
+between_added old new more within bench writer between = record {
   alone = subst IsAlone (sym more.longer.rules) between.alone;
   none_cancelled = more.none_cancelled ∙ between.none_cancelled;
   within = within;
-  fits = rw session
-      (fits_longer old.session.solver old.board new.board more.longer between.fits);
+  fits = rw bench (fits_longer old.bench old.board new.board more.longer between.fits);
   resting = more.resting 2 between.resting;
   counted = subst (λ (w : Writer). HasCounted w new.board) (sym writer)
       (counted_longer old.writer old.board new.board more.longer between.counted);
@@ -42,7 +41,7 @@ between_added old new more within session writer between = record {
 
 -- attempts came, of which none is open
 pub between_worked : (old new : Desk) → HasAttemptsMore old.board new.board 2 →
-    IsResting new.board 2 → Fits new.session.solver new.board.journal →
+    IsResting new.board 2 → Fits new.bench new.board.journal →
     new.client ≡ old.client → new.writer ≡ old.writer → IsBetweenPieces old → IsBetweenPieces new
 between_worked old new work resting fits client writer between =
     let none = work_adds_none old.board new.board 2 work in

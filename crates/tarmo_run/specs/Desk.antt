@@ -14,13 +14,13 @@ pub record IsAlone (rules : Rules) : Type 0 where
   pub clients : rules.clients ≡ 1
   pub workers : rules.workers ≡ 1
 
--- No job is cancelled, the session fits the board, the worker has no open attempt, and the blocks
+-- No job is cancelled, the bench fits the board, the worker has no open attempt, and the blocks
 -- of some first jobs are written.
 pub record IsBetweenPieces (desk : Desk) : Type 0 where
   pub alone : IsAlone desk.board.rules
   pub none_cancelled : cancelled desk.board.journal ≡ []
   pub within : AreWithinVariables (clauses_read desk.client desk.board)
-  pub fits : Fits desk.session.solver desk.board.journal
+  pub fits : Fits desk.bench desk.board.journal
   pub resting : IsResting desk.board 2
   pub counted : HasCounted desk.writer desk.board
 

@@ -1,5 +1,5 @@
-//! What the run on one thread has at hand: a board, its client and its writer, and the session of
-//! the worker.
+//! What the run on one thread has at hand: a board, its client and its writer, and the bench of the
+//! worker.
 
 ghost use Rattle.std.specs.Prelude.{◌≡◌, [], OnOk};
 ghost use Rattle.tarmo_run.specs.Client.{Adds, AddsFirst};
@@ -11,9 +11,8 @@ use crate::client::Client;
 use crate::writer::Writer;
 use board_core::Board;
 use icnf_text::Numbered;
-use session::Session;
 use std::alloc::{AllocError, Global};
-use worker_loop::work_alone;
+use worker_loop::{Bench, work_alone};
 
 // The caller behind the one client.
 const WORKER: u32 = 2;
@@ -24,7 +23,7 @@ pub(crate) struct Desk {
     alloc: Global,
     pub(crate) board: Board,
     pub(crate) client: Client,
-    session: Session,
+    bench: Bench,
     pub(crate) writer: Writer,
 }
 
@@ -41,7 +40,7 @@ impl Desk {
             alloc,
             board,
             client: Client::new(alloc),
-            session: Session::new(alloc, 0),
+            bench: Bench::new(alloc, 0),
             writer: Writer::new(alloc),
         }
     }
@@ -69,9 +68,9 @@ impl Desk {
         ensures between { IsBetweenPieces self.new }
         ensures more { HasNoJobMore self.old.board self.new.board }
         ensures parts { self.new
-            ≡ record self.old { board = self.new.board; session = self.new.session } }
+            ≡ record self.old { board = self.new.board; bench = self.new.bench } }
         ensures settled { OnOk result (AreSettled self.new.board) }
     {
-        work_alone(self.alloc, &mut self.board, WORKER, &mut self.session)
+        work_alone(self.alloc, &mut self.board, WORKER, &mut self.bench)
     }
 }
