@@ -101,7 +101,7 @@ count_none p (x ∷ xs) all =
     omega arith
 
 -- where the one worker rests, no attempt is open
-none_open : (board : State) (caller job : ℕ) → IsLegal board.rules board.journal → IsWorker board.rules caller → IsResting board caller → board.rules.workers ≡ 1 → open_attempts board.journal job ≡ 0
+pub none_open : (board : State) (caller job : ℕ) → IsLegal board.rules board.journal → IsWorker board.rules caller → IsResting board caller → board.rules.workers ≡ 1 → open_attempts board.journal job ≡ 0
 none_open board caller job legal worker resting alone =
     count_none (λ (a : Attempt). a.job == job && is_open board.journal a) (attempts board.journal) (λ k d lt. closed k (slice_index_or (attempts board.journal) k d) (at_number k d lt) (all k d lt) (is_open board.journal (slice_index_or (attempts board.journal) k d)) refl)
   where

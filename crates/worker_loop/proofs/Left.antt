@@ -47,7 +47,7 @@ at_longer begun more job number is = by_item (item_at begun number) refl is
     by_item (Some found) at h = let place = item_place begun number found at in ap (is_at job) (item_kept begun more number place.1 ∙ at) ∙ h
 
 -- spent attempts grow
-spent_grow : (journal : List Entry) (entry : Entry) (job : ℕ) → spent_attempts journal job ≤ spent_attempts (journal ++ entry ∷ []) job
+pub spent_grow : (journal : List Entry) (entry : Entry) (job : ℕ) → spent_attempts journal job ≤ spent_attempts (journal ++ entry ∷ []) job
 spent_grow journal entry job =
     let spents : List Entry → List ℕ = λ entries. filter_map (λ (e : Entry). spent_by e.event) entries in
     let begins : List Entry → List Attempt = λ entries. filter_map (λ (e : Entry). begun_by e.caller e.event) entries in

@@ -13,3 +13,4 @@ pub mod Ended
 pub mod Rested
 pub mod Left
 pub mod Finished
+pub mod OneWorker

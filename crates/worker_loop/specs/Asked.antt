@@ -1,4 +1,5 @@
--- What a session is asked, and how an attempt at it ends: the question is a cube over the inputs that are loaded.
+-- What a session is asked, and how an attempt at it ends: the question is a cube over the inputs
+-- that are loaded.
 use Rattle.std.specs.Prelude.{ℕ, List, map}
 use Rattle.std.specs.Arc.{arc_value}
 use Rattle.sat_base.specs.Lit.{variables}

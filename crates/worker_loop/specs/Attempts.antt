@@ -1,11 +1,12 @@
 -- One attempt of a worker, and what is left to do after it.
-use Rattle.std.specs.Prelude.{◌≡◌, ◌⊎◌, ℕ, zero, suc, ◌+◌, ◌-◌, ◌≤◌, Option, None, Some, IsSome, is_some, if◌then◌else◌, List, []}
+use Rattle.std.specs.Prelude.{◌≡◌, ◌⊎◌, ℕ, zero, suc, ◌+◌, ◌-◌, ◌<◌, ◌≤◌, Option, None, Some, IsSome, is_some, if◌then◌else◌, List, []}
 use Rattle.entry_core.specs.declared.entries.Entry.{Entry}
 use Rattle.entry_core.specs.declared.entries.Event.{Event}
 use Rattle.entry_core.specs.declared.entries.Event.TheVariants as event
 use Rattle.entry_core.specs.declared.rules.Rules.{Rules}
 use Rattle.entry_core.specs.Journal.{jobs}
 use Rattle.entry_core.specs.Attempts.{ended_by, spent_attempts}
+use Rattle.entry_core.specs.Schedule.{IsWaiting}
 use Rattle.entry_core.specs.Settled.{settled}
 use Rattle.board_core.specs.State.{State, entered}
 use Rattle.board_core.specs.Replies.{IsJob, IsOwn, job_at}
@@ -15,7 +16,7 @@ use Rattle.worker_loop.specs.declared.ends.End.{End}
 use Rattle.worker_loop.specs.declared.ends.End.TheVariants.{Answered, Spent}
 use Rattle.worker_loop.specs.Fits.{Fits}
 use Rattle.worker_loop.specs.Kept.{KeepsLearnt}
-use Rattle.worker_loop.specs.Working.{HasAttemptsMore, IsResting}
+use Rattle.worker_loop.specs.Working.{HasAttemptsMore, IsResting, given_up}
 
 -- an open attempt of the caller at this job of the board
 pub record IsAt (board : State) (caller number job : ℕ) : Type 0 where
@@ -34,7 +35,8 @@ pub record HasEnded (old new : State) (caller number job : ℕ) : Type 0 where
   pub happened : Event
   pub ends : ended_by happened ≡ Some number
   pub is : new ≡ entered old caller happened
-  pub nearer : IsSome (settled new.rules new.journal job) ⊎ (spent_attempts new.journal job ≡ suc (spent_attempts old.journal job))
+  pub nearer : IsSome (settled new.rules new.journal job)
+      ⊎ (spent_attempts new.journal job ≡ suc (spent_attempts old.journal job))
 
 -- the event that ends an attempt in this way, or as starved where there is no end
 abbrev pub event_of : ℕ → Option End → Event
@@ -47,14 +49,16 @@ pub record IsNewBench (bench : Bench) : Type 0 where
   pub session : bench.session.solver ≡ no_inputs
   pub packets : bench.packets.items ≡ []
 
+-- The attempt ended with what it found, at its job. Nothing that was learnt before is lost, unless
+-- the session was past the job.
 pub record IsFoundAt (old new : State) (caller number job : ℕ) (bench bench' : Bench) : Type 0 where
   pub end : End
   pub ends : EndsBy old new caller number (event_of number (Some end))
   pub bound : bench'.session.solver.bound ≡ job
-  pub kept : bench.session.solver.bound ≤ job → KeepsLearnt bench.session.solver bench'.session.solver
+  pub kept : bench.session.solver.bound ≤ job
+      → KeepsLearnt bench.session.solver bench'.session.solver
 
--- The attempt ended with what it found, its session at the job with all that it had learnt before, unless it was past the job;
--- or it starved, and the bench is a new one.
+-- The attempt ended with what it found; or it starved, and the bench is a new one.
 abbrev pub HasMade : State → State → ℕ → ℕ → ℕ → Bench → Bench → Type 0
 HasMade old new caller number job bench bench' =
     (IsFoundAt old new caller number job bench bench')
@@ -62,18 +66,33 @@ HasMade old new caller number job bench bench' =
 
 -- how many attempts at the job may still be spent
 abbrev pub attempts_left : Rules → List Entry → ℕ → ℕ
-attempts_left rules journal job = if is_some (settled rules journal job) then 0 else rules.attempts - spent_attempts journal job
+attempts_left rules journal job = if is_some (settled rules journal job) then 0
+    else rules.attempts - spent_attempts journal job
 
 abbrev pub left_up_to : Rules → List Entry → ℕ → ℕ
 left_up_to rules journal zero = 0
-left_up_to rules journal (suc job) = left_up_to rules journal job + attempts_left rules journal (suc job)
+left_up_to rules journal (suc job) = left_up_to rules journal job
+    + attempts_left rules journal (suc job)
 
 -- how many attempts at all jobs may still be spent
 abbrev pub left_on : State → ℕ
 left_on board = left_up_to board.rules board.journal (jobs board.journal)
 
+-- The session is at no job behind one that waits.
+abbrev pub IsBeforeWaiting : Bench → State → Type 0
+IsBeforeWaiting bench board = (job : ℕ) → IsWaiting board.rules board.journal job
+    → bench.session.solver.bound ≤ job
+
+-- Nothing that was learnt is lost, unless an attempt was given up, and the session is at no job
+-- behind one that waits.
+pub record KeepsOn (old new : State) (bench bench' : Bench) : Type 0 where
+  pub kept : KeepsLearnt bench.session.solver bench'.session.solver
+      ⊎ (given_up old.journal < given_up new.journal)
+  pub before : IsBeforeWaiting bench' new
+
 -- What stands between attempts: those so far, the worker's rest, and the bench.
-pub record GoesOn (old new : State) (caller : ℕ) (bench : Bench) : Type 0 where
+pub record GoesOn (old new : State) (caller : ℕ) (first bench : Bench) : Type 0 where
   pub works : HasAttemptsMore old new caller
   pub resting : IsResting new caller
   pub fits : Fits bench new.journal
+  pub kept : old.rules.workers ≡ 1 → IsBeforeWaiting first old → KeepsOn old new first bench

@@ -20,13 +20,15 @@ use Rattle.worker_loop.specs.Asked.{clauses_at}
 abbrev pub read_by : Bench → List (List Step)
 read_by bench = map arc_value bench.packets.items
 
--- Each place of the shared database that the session knows is one of those that were read, with the same packet.
+-- Each place of the shared database that the session knows is one of those that were read, with
+-- the same packet.
 abbrev pub KnowsOnlyRead : Bench → Type 0
-KnowsOnlyRead bench = (place : ℕ) (packet : List Step) → packet_at bench.session.solver.packets place ≡ Some packet
+KnowsOnlyRead bench = (place : ℕ) (packet : List Step)
+    → packet_at bench.session.solver.packets place ≡ Some packet
     → item_at (read_by bench) place ≡ Some packet
 
--- The session has the clauses of a job of the journal. The packets that were read are a front of the shared database, and
--- the session knows none but these.
+-- The session has the clauses of a job of the journal. The packets that were read are a front of
+-- the shared database, and the session knows none but these.
 pub record Fits (bench : Bench) (journal : List Entry) : Type 0 where
   pub added : bench.session.solver.bound ≤ jobs journal
   pub inputs : bench.session.solver.inputs ≡ inputs_of journal bench.session.solver.bound
@@ -36,16 +38,18 @@ pub record Fits (bench : Bench) (journal : List Entry) : Type 0 where
 -- Each packet that was read with a tag up to the bound is known, so that its clause is held.
 abbrev pub KnowsRead : Bench → Type 0
 KnowsRead bench = (place : ℕ) (packet : List Step) → item_at (read_by bench) place ≡ Some packet
-    → tag_of (ends_in packet) ≤ bench.session.solver.bound → packet_at bench.session.solver.packets place ≡ Some packet
+    → tag_of (ends_in packet) ≤ bench.session.solver.bound
+    → packet_at bench.session.solver.packets place ≡ Some packet
 
--- The own steps of these numbers were learnt: their clauses are held, and keep, in order, all rules of a spent list but the
--- one on its number.
+-- The own steps of these numbers were learnt: their clauses are held, and keep, in order, all
+-- rules of a spent list but the one on its number.
 pub record AreLearnt (solver : Solver) (cube : List ℕ) (numbers : List ℕ) : Type 0 where
   pub held : All (λ number. (one : Known) × IsStep solver.steps number one × Contains solver.held one) numbers
   pub rules : IsSpent (clauses_of solver.inputs) (variables (clauses_of solver.inputs) cube) (length numbers)
       (clauses_at solver.steps numbers)
 
--- The session is at the attempt's job, with its cube, knows the packets that were read, and has learnt what the attempt lists.
+-- The session is at the attempt's job, with its cube, knows the packets that were read, and has
+-- learnt what the attempt lists.
 pub record FitsAttempt (bench : Bench) (attempt : Attempt) (journal : List Entry) : Type 0 where
   pub bound : bench.session.solver.bound ≡ attempt.job
   pub cube : attempt.cube ≡ cube_of journal attempt.job

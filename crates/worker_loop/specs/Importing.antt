@@ -12,9 +12,11 @@ use Rattle.worker_loop.specs.Fits.{read_by}
 -- Each packet that was read with a tag up to the bound can be taken in.
 abbrev pub AreTakable : Bench → Type 0
 AreTakable bench = (place : ℕ) (packet : List Step) → item_at (read_by bench) place ≡ Some packet
-    → tag_of (ends_in packet) ≤ bench.session.solver.bound → (one : Known) × IsTakable bench.session.solver packet one
+    → tag_of (ends_in packet) ≤ bench.session.solver.bound
+    → (one : Known) × IsTakable bench.session.solver packet one
 
--- Packets that were read came to be known, so that their clauses are held, and nothing else changed.
+-- Packets that were read came to be known, so that their clauses are held, and nothing else
+-- changed.
 pub record HasImported (old new : Bench) : Type 0 where
   pub session : new ≡ record old { session = new.session }
   pub inputs : new.session.solver.inputs ≡ old.session.solver.inputs
@@ -22,12 +24,18 @@ pub record HasImported (old new : Bench) : Type 0 where
   pub steps : new.session.solver.steps ≡ old.session.solver.steps
   pub learnt : new.session.solver.learnt ≡ old.session.solver.learnt
   pub held : IsFront old.session.solver.held new.session.solver.held
-  pub stay : (place : ℕ) (packet : List Step) → packet_at old.session.solver.packets place ≡ Some packet
+  pub stay : (place : ℕ) (packet : List Step)
+      → packet_at old.session.solver.packets place ≡ Some packet
       → packet_at new.session.solver.packets place ≡ Some packet
-  pub came : (place : ℕ) (packet : List Step) → packet_at new.session.solver.packets place ≡ Some packet
-      → (packet_at old.session.solver.packets place ≡ Some packet) ⊎ (item_at (read_by old) place ≡ Some packet)
+  pub came : (place : ℕ) (packet : List Step)
+      → packet_at new.session.solver.packets place ≡ Some packet
+      → (packet_at old.session.solver.packets place ≡ Some packet)
+      ⊎ (item_at (read_by old) place ≡ Some packet)
 
--- The packets of the first places that were read are known, as far as their tags are up to the bound.
+-- The packets of the first places that were read are known, as far as their tags are up to the
+-- bound.
 abbrev pub KnowsReadUpTo : Bench → ℕ → Type 0
-KnowsReadUpTo bench last = (place : ℕ) (packet : List Step) → place ≤ last → item_at (read_by bench) place ≡ Some packet
-    → tag_of (ends_in packet) ≤ bench.session.solver.bound → packet_at bench.session.solver.packets place ≡ Some packet
+KnowsReadUpTo bench last = (place : ℕ) (packet : List Step) → place ≤ last
+    → item_at (read_by bench) place ≡ Some packet
+    → tag_of (ends_in packet) ≤ bench.session.solver.bound
+    → packet_at bench.session.solver.packets place ≡ Some packet

@@ -4,8 +4,8 @@ use Rattle.trace_core.specs.declared.derivation.Step.{Step}
 use Rattle.session.specs.Fronts.{IsFront}
 use Rattle.session.specs.Solver.{Solver, packet_at}
 
--- Nothing that was learnt is lost: held clauses, own steps and learnt steps come behind those that were there, and each packet
--- that is known stays known.
+-- Nothing that was learnt is lost: held clauses, own steps and learnt steps come behind those
+-- that were there, and each packet that is known stays known.
 pub record KeepsLearnt (old new : Solver) : Type 0 where
   pub held : IsFront old.held new.held
   pub steps : IsFront old.steps new.steps

@@ -15,18 +15,19 @@ use Rattle.worker_loop.specs.Asked.{clauses_at}
 -- a right answer, or a pause
 abbrev pub IsRightRound : Solver → List ℕ → Round → Type 0
 IsRightRound solver cube (Model values) = IsModelOf (clauses_of solver.inputs) cube values
-IsRightRound solver cube (Refuted part number) = IsRefutation solver.inputs solver.steps cube part number
+IsRightRound solver cube (Refuted part number) =
+    IsRefutation solver.inputs solver.steps cube part number
 IsRightRound solver cube Paused = Unit {0}
 
--- One round of at most 256 learnt clauses, and never more than the budget leaves. The attempt lists the own steps of exactly
--- those besides, and nothing else of it changed.
+-- One round of at most 256 learnt clauses, and never more than the budget leaves. The attempt
+-- lists the own steps of exactly those besides, and nothing else of it changed.
 pub record MakesRound (old new : Solver) (before after : Attempt) (budget : ℕ) (round : Round) : Type 0 where
   pub solves : Solves old new before.cube (min 256 (budget - length before.learnt.items)) round
   pub same : after ≡ record before { learnt = after.learnt }
   pub listed : after.learnt.items ≡ before.learnt.items ++ solves.learns.names
 
--- Nothing is lost that was learnt before, and the attempt lists exactly what was learnt since, at most as many clauses as the
--- budget allows.
+-- Nothing is lost that was learnt before, and the attempt lists exactly what was learnt since, at
+-- most as many clauses as the budget allows.
 pub record HasLearntOn (old new : Solver) (before after : Attempt) (budget : ℕ) : Type 0 where
   pub keeps : Keeps old new
   pub same : after ≡ record before { learnt = after.learnt }
@@ -38,4 +39,5 @@ pub record HasLearntOn (old new : Solver) (before after : Attempt) (budget : ℕ
 -- a spent list is the clauses of the own steps that the attempt lists
 abbrev pub IsOfLearnt : Solver → Attempt → End → Type 0
 IsOfLearnt solver attempt (Answered answer) = Unit {0}
-IsOfLearnt solver attempt (Spent learnt) = arc_value learnt ≡ clauses_at solver.steps attempt.learnt.items
+IsOfLearnt solver attempt (Spent learnt) =
+    arc_value learnt ≡ clauses_at solver.steps attempt.learnt.items

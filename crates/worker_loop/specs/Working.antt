@@ -1,5 +1,5 @@
 -- What a worker does to a board.
-use Rattle.std.specs.Prelude.{◌≡◌, ℕ, List, ◌++◌, All}
+use Rattle.std.specs.Prelude.{◌≡◌, ℕ, Bool, true, false, List, ◌++◌, All, count_by}
 use Rattle.entry_core.specs.declared.entries.Entry.{Entry}
 use Rattle.entry_core.specs.declared.entries.Event.{Event}
 use Rattle.entry_core.specs.declared.entries.Event.TheVariants as event
@@ -25,6 +25,16 @@ pub record HasAttemptsMore (old new : State) (caller : ℕ) : Type 0 where
   pub is : new.journal ≡ old.journal ++ more
   pub own : All (λ entry. entry.caller ≡ caller) more
   pub attempts : All (λ entry. IsOfAttempt entry.event) more
+
+-- an attempt is given up for want of memory, or since its job was settled
+abbrev pub gives_up : Event → Bool
+gives_up (event.Starved number) = true
+gives_up (event.Dropped number) = true
+gives_up _ = false
+
+-- how many attempts were given up
+abbrev pub given_up : List Entry → ℕ
+given_up journal = count_by (λ entry. gives_up entry.event) journal
 
 -- the caller has no open attempt
 abbrev pub IsResting : State → ℕ → Type 0

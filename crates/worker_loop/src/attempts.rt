@@ -48,8 +48,8 @@ pub(crate) fn pursue(
     }
 }
 
-/// The end of an attempt after a round, none where it goes on: an answer with its trace, or copies of exactly the
-/// clauses that it learnt, where these are as many as the budget allows.
+/// The end of an attempt after a round, none where it goes on: an answer with its trace, or
+/// copies of exactly the clauses that it learnt, where these are as many as the budget allows.
 pub(crate) fn end_of(
     alloc: Global,
     bench: &Bench,
@@ -79,7 +79,8 @@ pub(crate) fn end_of(
     }
 }
 
-// Copies of exactly the clauses that the attempt learnt, where these are as many as the budget allows.
+// Copies of exactly the clauses that the attempt learnt, where these are as many as the budget
+// allows.
 fn spent(
     alloc: Global,
     bench: &Bench,
@@ -99,9 +100,9 @@ fn spent(
     Ok(Some(End::Spent(Arc::new(alloc, copies)?)))
 }
 
-// The refuted part with its trace: what the own step of its negation rests on, out of the packets that were read and the
-// session's own steps. It takes the time of those steps and hints, times the logarithm of their number, and none for the
-// other steps of the session.
+// The refuted part with its trace: what the own step of its negation rests on, out of the packets
+// that were read and the session's own steps. It takes the time of those steps and hints, times
+// the logarithm of their number, and none for the other steps of the session.
 fn traced(
     alloc: Global,
     bench: &Bench,

@@ -10,8 +10,8 @@ use std::alloc::Global;
 use std::sync::Arc;
 use trace_core::Packet;
 
-/// What a worker has at hand: its session, and the packets of the shared database that it has read so far, which are
-/// the first ones. Their number is the worker's read place.
+/// What a worker has at hand: its session, and the packets of the shared database that it has
+/// read so far, which are the first ones. Their number is the worker's read place.
 #[derive(Debug, Drop)]
 pub struct Bench {
     pub session: Session,
@@ -19,7 +19,8 @@ pub struct Bench {
 }
 
 impl Bench {
-    /// A bench that has read nothing, with a session without clauses. It fits every journal. Takes no memory.
+    /// A bench that has read nothing, with a session without clauses. It fits every journal.
+    /// Takes no memory.
     pub fn new(alloc: Global, variant: u32) -> Bench
         ensures session { result.session ≡ record { solver = no_inputs; names = [] } }
         ensures packets { result.packets.items ≡ [] }

@@ -17,7 +17,8 @@ use crate::loading::bring_to;
 use board_core::{Board, Late};
 use std::alloc::{AllocError, Global};
 
-/// Makes an attempt that was begun, and ends it. After want of memory it ends as starved, and the bench is a new one.
+/// Makes an attempt that was begun, and ends it. After want of memory it ends as starved, and the
+/// bench is a new one.
 pub(crate) fn make_attempt(
     alloc: Global,
     board: &mut Board,
@@ -70,8 +71,9 @@ fn pursue_job(
     pursue(alloc, bench, &mut attempt, board.rules().conflicts)
 }
 
-/// Ends an attempt in this way, or as starved where there is no end, and drops it where its job is settled. This is all
-/// that a hold of the board does at the end of an attempt. Takes no memory.
+/// Ends an attempt in this way, or as starved where there is no end, and drops it where its job
+/// is settled. This is all that a hold of the board does at the end of an attempt. Takes no
+/// memory.
 pub(crate) fn end_attempt(board: &mut Board, caller: u32, number: u32, end: Option<End>)
     requires own { IsOwn board.old caller number }
     requires right { IfSome end (IsEnd board.old.journal (job_at board.old number) board.old.rules.conflicts) }

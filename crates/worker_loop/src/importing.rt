@@ -10,8 +10,8 @@ use crate::bench::Bench;
 use std::alloc::AllocError;
 use trace_core::Packet;
 
-/// Imports each packet that was read whose tag is at most the job that is loaded, and whose place the session doesn't
-/// know. What it imported before want of memory it keeps.
+/// Imports each packet that was read whose tag is at most the job that is loaded, and whose place
+/// the session doesn't know. What it imported before want of memory it keeps.
 pub(crate) fn import_waiting(bench: &mut Bench) -> Result<(), AllocError>
     requires few { length bench.old.packets.items < 4294967296 }
     requires only { KnowsOnlyRead bench.old }

@@ -15,8 +15,8 @@ use entry_core::Segment;
 use session::Session;
 use std::alloc::{AllocError, Global};
 
-/// Makes the job the one that is loaded. A session that is past it begins anew. Each packet that was read with a tag up
-/// to the job is known then.
+/// Makes the job the one that is loaded. A session that is past it begins anew. Each packet that
+/// was read with a tag up to the job is known then.
 pub(crate) fn bring_to(
     alloc: Global,
     board: &Board,
@@ -37,7 +37,8 @@ pub(crate) fn bring_to(
     import_waiting(bench)
 }
 
-/// Begins anew with a session that is past the job, since clauses of later jobs are none of this one's.
+/// Begins anew with a session that is past the job, since clauses of later jobs are none of this
+/// one's.
 fn begin_anew_past(alloc: Global, bench: &mut Bench, job: u32)
     ensures fits { (journal : List Entry) → Fits bench.old journal → Fits bench.new journal }
     ensures up_to { bench.new.session.solver.bound ≤ job }
@@ -66,7 +67,8 @@ fn load_up_to(board: &Board, bench: &mut Bench, job: u32) -> Result<(), AllocErr
     Ok(())
 }
 
-/// Loads what was added with the job behind the one that is loaded. After want of memory the bench is as before.
+/// Loads what was added with the job behind the one that is loaded. After want of memory the
+/// bench is as before.
 fn load_next(bench: &mut Bench, segment: &Segment) -> Result<(), AllocError>
     requires clauses { length bench.old.session.solver.inputs + length segment.now.clauses ≤ 16777216 }
     requires jobs { bench.old.session.solver.bound < 1048576 }

@@ -16,7 +16,8 @@ use std::alloc::AllocError;
 // At most so many clauses are learnt in a round.
 const ROUND: u64 = 256;
 
-/// One round of at most 256 learnt clauses, and never more than the budget leaves, which the attempt lists besides.
+/// One round of at most 256 learnt clauses, and never more than the budget leaves, which the
+/// attempt lists besides.
 pub(crate) fn make_round(
     bench: &mut Bench,
     attempt: &mut Attempt,

@@ -7,15 +7,16 @@ ghost use Rattle.entry_core.specs.Settled.{settled};
 ghost use Rattle.board_core.specs.Replies.{IsJob};
 ghost use Rattle.worker_loop.specs.Fits.{Fits};
 ghost use Rattle.worker_loop.specs.Working.{HasAttemptsMore, IsResting};
-ghost use Rattle.worker_loop.specs.Attempts.{left_on};
+ghost use Rattle.worker_loop.specs.Attempts.{IsBeforeWaiting, KeepsOn, left_on};
 
 use crate::bench::Bench;
 use crate::ending::make_attempt;
 use board_core::{Board, Task};
 use std::alloc::{AllocError, Global};
 
-/// Makes attempts at the jobs of the board until none is to take. Want of memory within an attempt ends it as
-/// starved, and the work goes on with a new bench; so the error comes from taking a job alone.
+/// Makes attempts at the jobs of the board until none is to take. Want of memory within an
+/// attempt ends it as starved, and the work goes on with a new bench; so the error comes from
+/// taking a job alone.
 pub fn work_alone(
     alloc: Global,
     board: &mut Board,
@@ -29,6 +30,8 @@ pub fn work_alone(
     ensures resting { IsResting board.new caller }
     ensures fits { Fits bench.new board.new.journal }
     ensures idle { OnOk result ((job : ℕ) → ¬ IsWaiting board.new.rules board.new.journal job) }
+    // With one worker, nothing that was learnt is lost, unless an attempt was given up.
+    ensures kept { board.old.rules.workers ≡ 1 → IsBeforeWaiting bench.old board.old → KeepsOn board.old board.new bench.old bench.new }
     // With one worker, nothing is left to do.
     ensures settled { OnOk result (board.old.rules.workers ≡ 1 → (job : ℕ) → IsJob board.new job → IsSome (settled board.new.rules board.new.journal job)) }
 {
@@ -52,9 +55,13 @@ fn work_once(
     ensures works { HasAttemptsMore board.old board.new caller }
     ensures resting { IsResting board.new caller }
     ensures fits { Fits bench.new board.new.journal }
+    // With one worker, nothing that was learnt is lost, unless an attempt was given up.
+    ensures kept { board.old.rules.workers ≡ 1 → IsBeforeWaiting bench.old board.old → KeepsOn board.old board.new bench.old bench.new }
     ensures fewer { IfOk result (λ made. IsTrue made → left_on board.new < left_on board.old) }
     ensures idle { IfOk result (λ made. made ≡ false → (job : ℕ) → ¬ IsWaiting board.new.rules board.new.journal job) }
 {
+    // In a legal journal a worker that rests has no open attempt.
+    let _ = board.journal();
     match board.take(caller)? {
         Task::Job { job, attempt } => {
             make_attempt(alloc, board, caller, bench, job, attempt);

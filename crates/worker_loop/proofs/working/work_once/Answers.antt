@@ -8,6 +8,8 @@ use Rattle.worker_loop.specs.Working.{IsResting, HasAttemptsMore}
 use Rattle.worker_loop.proofs.Rested.{begun_at, rested}
 use Rattle.worker_loop.proofs.Left.{left_fewer}
 use Rattle.worker_loop.proofs.Kept.{fits_entered, nothing_more}
+use Rattle.worker_loop.specs.Attempts.{KeepsOn}
+use Rattle.worker_loop.proofs.OneWorker.{on_itself, once_kept}
 use Rattle.worker_loop.proofs.Finished.{no_task}
 use Rattle.worker_loop.proofs.working.work_once.Goals as goal
 
@@ -40,6 +42,18 @@ returns-in-Job-clause-fewer c =
     subst (IsTask c.args.board.now c.take.new.self c.args.caller) c.in-Job.is c.in_ok-job.ensures.task in
     λ made. left_fewer c.args.board.now c.take.new.self c.make_attempt.new.board c.args.caller c.in-Job.job c.in-Job.attempt begun c.make_attempt.ensures.ended
 
+pub returns-in_err-job-clause-kept : goal.returns-in_err-job-clause-kept
+returns-in_err-job-clause-kept c =
+    let same : c.take.new.self ≡ c.args.board.now = search rules in
+    λ alone before. subst (λ (b : State). KeepsOn c.args.board.now b c.args.bench.now c.args.bench.now) (sym same) (on_itself c.args.board.now c.args.bench.now before)
+
+pub returns-in-Job-clause-kept : goal.returns-in-Job-clause-kept
+returns-in-Job-clause-kept c =
+    let begun : IsBegun c.args.board.now c.take.new.self c.args.caller c.in-Job.job c.in-Job.attempt =
+    subst (IsTask c.args.board.now c.take.new.self c.args.caller) c.in-Job.is c.in_ok-job.ensures.task in
+    λ alone before. once_kept c.args.board.now c.take.new.self c.make_attempt.new.board c.args.caller c.in-Job.job c.in-Job.attempt c.args.bench.now c.make_attempt.new.bench
+    c.journal.ensures.legal c.requires.worker c.requires.resting alone begun c.make_attempt.ensures.ended c.make_attempt.ensures.made before
+
 pub returns-in-Done : goal.returns-in-Done
 returns-in-Done c =
     let rest = no_task c.args.board.now c.take.new.self c.args.caller c.in_ok-job.field-0 c.in-Done.is c.in_ok-job.ensures.task in
@@ -48,6 +62,7 @@ returns-in-Done c =
       works = subst (λ (b : State). HasAttemptsMore c.args.board.now b c.args.caller) same (nothing_more c.args.board.now c.args.caller);
       resting = subst (λ (b : State). IsResting b c.args.caller) same c.requires.resting;
       fits = subst (λ (b : State). Fits c.args.bench.now b.journal) same c.requires.fits;
+      kept = λ alone before. subst (λ (b : State). KeepsOn c.args.board.now b c.args.bench.now c.args.bench.now) same (on_itself c.args.board.now c.args.bench.now before);
       fewer = λ made. absurd (cc);
       idle = λ made. subst (λ (b : State). (job : ℕ) → IsWaiting b.rules b.journal job → ⊥) same rest.1;
     }
