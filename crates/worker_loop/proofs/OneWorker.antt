@@ -16,7 +16,7 @@ use Rattle.board_core.specs.State.{State, entered}
 use Rattle.board_core.specs.Replies.{IsBegun}
 use Rattle.board_core.proofs.Changes.{same_segments}
 use Rattle.board_core.proofs.Verdicts.{entry_by}
-use Rattle.search_core.specs.Solver.{Solver}
+use Rattle.session.specs.Solver.{Solver}
 use Rattle.worker_loop.specs.declared.bench.Bench.{Bench}
 use Rattle.worker_loop.specs.Attempts.{EndsBy, HasEnded, HasMade, IsBeforeWaiting, KeepsOn}
 use Rattle.worker_loop.specs.Kept.{KeepsLearnt}
