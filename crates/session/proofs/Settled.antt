@@ -1,5 +1,6 @@
 -- A search after propagation.
-use Rattle.std.proofs.Common.{◌≡◌, ◌∙◌, ℕ, ◌<◌, ◌≤◌, List, [], ◌∷◌, ◌++◌, length, ap, sym, subst, inl, inr, arith}
+use Rattle.std.proofs.Common.{◌≡◌, ◌∙◌, ℕ, ◌<◌, ◌≤◌, List, [], ◌∷◌, ◌++◌, length, ap, sym, subst}
+use Rattle.std.proofs.Common.{inl, inr, arith}
 use Rattle.std.specs.Prelude.{◌⊎◌, All, Contains}
 use Rattle.std.proofs.lemmas.Bool.{cases_lt}
 use Rattle.std.proofs.lemmas.List.{append-nil, append_assoc}
@@ -23,21 +24,30 @@ use Rattle.session.proofs.OnTrails.{propagated_on_trail}
 use Rattle.session.proofs.Cursor.{assigned_grown}
 use Rattle.session.proofs.Fronts.{level_at, entry_in}
 
-pub pairs_of : (s : Search) (store : StoreView) → IsSearching s → HasSameClauses s.store.clauses store.clauses → AreOneByOne s.store.clauses store.clauses
+pub pairs_of : (s : Search) (store : StoreView) → IsSearching s
+    → HasSameClauses s.store.clauses store.clauses → AreOneByOne s.store.clauses store.clauses
 pairs_of s store kept same = one_by_one s.store.clauses store.clauses kept.stock.lits same.count same.each
 
-within_same : (bound : ℕ) (olds news : List ArenaClause) → HasSameClauses olds news → AreAllWithin bound olds → AreAllWithin bound news
-within_same bound olds news same all = All-from_get_or (λ (clause : ArenaClause). AreWithin bound clause.lits) news no_clause (λ id lt.
+within_same : (bound : ℕ) (olds news : List ArenaClause) → HasSameClauses olds news
+    → AreAllWithin bound olds → AreAllWithin bound news
+within_same bound olds news same all = All-from_get_or
+    (λ (clause : ArenaClause). AreWithin bound clause.lits) news no_clause (λ id lt.
     let was : id < length olds = omega (arith, lt, same.count) in
     All-from_members (λ lit. variable lit ≤ bound) (clause_at news id).lits (λ lit has.
-    All-contains (λ x. variable x ≤ bound) (clause_at olds id).lits lit (All-get_or (λ (clause : ArenaClause). AreWithin bound clause.lits) olds id no_clause was all)
-    (All-contains (Contains (clause_at olds id).lits) (clause_at news id).lits lit (same.each id was).no_more has)))
+    All-contains (λ x. variable x ≤ bound) (clause_at olds id).lits lit
+    (All-get_or (λ (clause : ArenaClause). AreWithin bound clause.lits) olds id no_clause was all)
+    (All-contains (Contains (clause_at olds id).lits) (clause_at news id).lits lit
+    (same.each id was).no_more has)))
 
-pub search_propagated : (s : Search) (store : StoreView) (trail : TrailView) → IsSearching s → HasSameClauses s.store.clauses store.clauses → store.vars ≡ s.store.vars
-    → HasGrown (lits_of_each store.clauses) s.trail.depth s.trail.entries trail.entries → IsFounded (lits_of_each store.clauses) trail.entries s.trail.depth → trail.depth ≡ s.trail.depth → trail.vars ≡ s.trail.vars → IsTrail trail
+pub search_propagated : (s : Search) (store : StoreView) (trail : TrailView) → IsSearching s
+    → HasSameClauses s.store.clauses store.clauses → store.vars ≡ s.store.vars
+    → HasGrown (lits_of_each store.clauses) s.trail.depth s.trail.entries trail.entries
+    → IsFounded (lits_of_each store.clauses) trail.entries s.trail.depth
+    → trail.depth ≡ s.trail.depth → trail.vars ≡ s.trail.vars → IsTrail trail
     → IsSearching (record s { store = store; trail = trail })
 search_propagated s store trail kept same store_vars grown founded depth_is vars_are is = record {
-  stock = stock_same s.store.clauses store.clauses (packets_of s) s.steps.items s.bound same kept.stock;
+  stock = stock_same s.store.clauses store.clauses
+      (packets_of s) s.steps.items s.bound same kept.stock;
   room = record {
     over = within_same s.greatest s.store.clauses store.clauses same kept.room.over;
     reserved = omega (arith, kept.room.reserved, vars_are);
@@ -49,18 +59,24 @@ search_propagated s store trail kept same store_vars grown founded depth_is vars
   counted = record {
     greatest = kept.counted.greatest ∙ ap (λ xs. greatest_of_all (clauses_of xs)) inputs;
     inputs = kept.counted.inputs ∙ ap length inputs;
-    learnt = subst (λ held. All (λ number. (one : Known) × IsStep s.steps.items number one × Contains held one) s.learnt.items) (held_same s.store.clauses store.clauses pairs) kept.counted.learnt;
+    learnt = subst (λ held. All (λ number. (one : Known) × IsStep s.steps.items number one
+        × Contains held one) s.learnt.items)
+        (held_same s.store.clauses store.clauses pairs) kept.counted.learnt;
   };
   on = subst (λ depth. IsOnTrail (lits_of_each store.clauses) trail.entries depth) (sym depth_is)
       (propagated_on_trail s.store.clauses store.clauses s.trail.entries trail.entries s.trail.depth same grown founded kept.on);
   named = subst (λ xs. IsNamed (named_by xs (packets_of s) s.steps.items) trail.entries s.units.items s.tags.items s.named) inputs (record {
     within = omega (arith, kept.named.within, grown.longer);
     zero = λ place lt. ap (λ (e : Entry). e.level) (old_at place lt) ∙ kept.named.zero place lt;
-    known = λ place lt. subst (λ (e : Entry). IsNameOf (table_of s) (unit_of s.units.items (variable e.lit)) (e.lit ∷ []) (tag_of_unit s.tags.items (variable e.lit))) (sym (old_at place lt)) (kept.named.known place lt);
+    known = λ place lt. subst (λ (e : Entry). IsNameOf (table_of s)
+        (unit_of s.units.items (variable e.lit)) (e.lit ∷ [])
+        (tag_of_unit s.tags.items (variable e.lit))) (sym (old_at place lt))
+        (kept.named.known place lt);
   });
   trail = is;
   cursor = assigned_grown (lits_of_each store.clauses) s.trail.depth s.cursor s.trail.entries trail.entries grown kept.cursor;
-  all_named = λ deep place lt zero. all_at deep place lt zero (cases_lt place (length s.trail.entries));
+  all_named = λ deep place lt zero. all_at deep place lt zero
+      (cases_lt place (length s.trail.entries));
 }
   where
     pairs : AreOneByOne s.store.clauses store.clauses
@@ -69,15 +85,22 @@ search_propagated s store trail kept same store_vars grown founded depth_is vars
     inputs : inputs_of s.store.clauses ≡ inputs_of store.clauses
     inputs = inputs_same s.store.clauses store.clauses pairs
 
-    was_at : (place : ℕ) → place < length s.trail.entries → entry_at trail.entries place ≡ entry_at s.trail.entries place
-    was_at place lt = sym (entry_in trail.entries (length s.trail.entries) place lt) ∙ ap (λ (es : List Entry). entry_at es place) grown.before
+    was_at : (place : ℕ) → place < length s.trail.entries
+        → entry_at trail.entries place ≡ entry_at s.trail.entries place
+    was_at place lt = sym (entry_in trail.entries (length s.trail.entries) place lt)
+        ∙ ap (λ (es : List Entry). entry_at es place) grown.before
 
-    old_at : (place : ℕ) → place < s.named → entry_at trail.entries place ≡ entry_at s.trail.entries place
+    old_at : (place : ℕ) → place < s.named → entry_at trail.entries place
+        ≡ entry_at s.trail.entries place
     old_at place lt = was_at place (omega (arith, lt, kept.named.within))
 
-    all_at : 0 < trail.depth → (place : ℕ) → place < length trail.entries → level_at trail.entries place ≡ 0 → (place < length s.trail.entries) ⊎ (length s.trail.entries ≤ place) → place < s.named
-    all_at deep place lt zero (inl old) = kept.all_named (omega (arith, deep, depth_is)) place old (ap (λ (e : Entry). e.level) (sym (was_at place old)) ∙ zero)
-    all_at deep place lt zero (inr new) = let here = grown.level place new lt in absurd (omega (arith, here, zero, deep, depth_is))
+    all_at : 0 < trail.depth → (place : ℕ) → place < length trail.entries
+        → level_at trail.entries place ≡ 0 → (place < length s.trail.entries)
+        ⊎ (length s.trail.entries ≤ place) → place < s.named
+    all_at deep place lt zero (inl old) = kept.all_named (omega (arith, deep, depth_is)) place old
+        (ap (λ (e : Entry). e.level) (sym (was_at place old)) ∙ zero)
+    all_at deep place lt zero (inr new) = let here = grown.level place new lt in absurd
+        (omega (arith, here, zero, deep, depth_is))
 
 pub all_named_deep : (s : Search) → IsSearching s → (s.trail.depth ≡ 0 → ⊥) → AreAllNamed s
 all_named_deep s kept deep = record { each = kept.all_named (omega (arith, deep)) }
@@ -89,5 +112,10 @@ all_named_zero s all = record { each = λ place lt zero. omega (arith, lt, all) 
 pub same_front : {X : Type 0} (old : List X) → IsFront old old
 same_front old = record { more = []; is = sym (append-nil old) }
 
-pub front_twice : {X : Type 0} (old mid new : List X) → IsFront old mid → IsFront mid new → IsFront old new
-front_twice {X} old mid new a b = record { more = a.more ++ b.more; is = b.is ∙ ap (λ (xs : List X). xs ++ b.more) a.is ∙ append_assoc old a.more b.more }
+pub front_twice : {X : Type 0} (old mid new : List X) → IsFront old mid → IsFront mid new
+    → IsFront old new
+front_twice {X} old mid new a b = record {
+  more = a.more ++ b.more;
+  is = b.is
+      ∙ ap (λ (xs : List X). xs ++ b.more) a.is ∙ append_assoc old a.more b.more;
+}

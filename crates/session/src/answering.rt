@@ -11,7 +11,7 @@ use crate::solving::solve;
 use sat_base::{Assign, Cube};
 use std::alloc::AllocError;
 
-/// The answer to a cube.
+/// The answer to a cube: what rounds come to that go on until there is one.
 #[derive(Debug, Drop)]
 pub enum Conclusion {
     /// A model of the inputs and the cube.

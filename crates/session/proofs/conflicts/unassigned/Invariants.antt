@@ -4,4 +4,5 @@ use Rattle.trail_core.specs.UnderTrail.{IsUnassigned}
 use Rattle.session.proofs.conflicts.unassigned.Given as goal
 
 abbrev pub invariant-loop-lit : goal.invariant-loop-lit
-invariant-loop-lit l = All (λ lit. IsUnassigned (lits_of l.trail.entries) lit → ⊥) (take l.lit-index l.lit-items)
+invariant-loop-lit l = All (λ lit. IsUnassigned (lits_of l.trail.entries) lit → ⊥)
+    (take l.lit-index l.lit-items)

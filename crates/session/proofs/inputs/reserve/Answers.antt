@@ -9,8 +9,10 @@ returns-in_err-reserve-2-clause-kept c =
     let s = c.args.search.now in
     let room = c.requires.kept.room in
     search_reserved s c.reserve.new.self c.reserve-2.new.self s.units s.tags s.trail c.requires.kept c.requires.kept.trail c.in_ok-reserve.ensures.clauses refl refl (omega arith)
-    (omega (arith, room.store, c.in_ok-reserve.ensures.ok)) (omega (arith, room.scratch, c.in_err-reserve-2.ensures.err)) room.units room.tags
-    (take_all (length s.units.items) s.units.items (omega arith)) (take_all (length s.tags.items) s.tags.items (omega arith))
+    (omega (arith, room.store, c.in_ok-reserve.ensures.ok))
+    (omega (arith, room.scratch, c.in_err-reserve-2.ensures.err)) room.units room.tags
+    (take_all (length s.units.items) s.units.items (omega arith))
+    (take_all (length s.tags.items) s.tags.items (omega arith))
 
 pub returns-in_err-grow_units-clause-kept : goal.returns-in_err-grow_units-clause-kept
 returns-in_err-grow_units-clause-kept c =
@@ -18,7 +20,10 @@ returns-in_err-grow_units-clause-kept c =
     let room = c.requires.kept.room in
     let front = c.grow_units.ensures.front in
     search_reserved s c.reserve.new.self c.reserve-2.new.self c.grow_units.new.units s.tags s.trail c.requires.kept c.requires.kept.trail c.in_ok-reserve.ensures.clauses refl refl (omega arith)
-    (omega (arith, room.store, c.in_ok-reserve.ensures.ok)) (omega (arith, room.scratch, c.in_ok-reserve-2.ensures.ok)) (let more = longer s.units.items c.grow_units.new.units.items front in omega (arith, more, room.units)) room.tags
+    (omega (arith, room.store, c.in_ok-reserve.ensures.ok))
+    (omega (arith, room.scratch, c.in_ok-reserve-2.ensures.ok))
+    (let more = longer s.units.items c.grow_units.new.units.items front in omega
+    (arith, more, room.units)) room.tags
     front (take_all (length s.tags.items) s.tags.items (omega arith))
 
 pub returns-in_err-grow_tags-clause-kept : goal.returns-in_err-grow_tags-clause-kept
@@ -28,8 +33,12 @@ returns-in_err-grow_tags-clause-kept c =
     let front = c.grow_units.ensures.front in
     let tags_front = c.grow_tags.ensures.front in
     search_reserved s c.reserve.new.self c.reserve-2.new.self c.grow_units.new.units c.grow_tags.new.tags s.trail c.requires.kept c.requires.kept.trail c.in_ok-reserve.ensures.clauses refl refl (omega arith)
-    (omega (arith, room.store, c.in_ok-reserve.ensures.ok)) (omega (arith, room.scratch, c.in_ok-reserve-2.ensures.ok)) (let more = longer s.units.items c.grow_units.new.units.items front in omega (arith, more, room.units))
-    (let more = longer s.tags.items c.grow_tags.new.tags.items tags_front in omega (arith, more, room.tags)) front tags_front
+    (omega (arith, room.store, c.in_ok-reserve.ensures.ok))
+    (omega (arith, room.scratch, c.in_ok-reserve-2.ensures.ok))
+    (let more = longer s.units.items c.grow_units.new.units.items front in omega
+    (arith, more, room.units))
+    (let more = longer s.tags.items c.grow_tags.new.tags.items tags_front in omega
+    (arith, more, room.tags)) front tags_front
 
 pub returns-in_err-reserve-3-clause-kept : goal.returns-in_err-reserve-3-clause-kept
 returns-in_err-reserve-3-clause-kept c =
@@ -39,8 +48,12 @@ returns-in_err-reserve-3-clause-kept c =
     let tags_front = c.grow_tags.ensures.front in
     let vars = ap (λ (t : TrailView). t.vars) c.in_err-reserve-3.ensures.err in
     search_reserved s c.reserve.new.self c.reserve-2.new.self c.grow_units.new.units c.grow_tags.new.tags c.reserve-3.new.self c.requires.kept (subst IsTrail (sym c.in_err-reserve-3.ensures.err) c.requires.kept.trail) c.in_ok-reserve.ensures.clauses c.in_err-reserve-3.ensures.entries c.in_err-reserve-3.ensures.depth (omega (arith, vars))
-    (omega (arith, vars, room.store, c.in_ok-reserve.ensures.ok)) (omega (arith, vars, room.scratch, c.in_ok-reserve-2.ensures.ok)) (let more = longer s.units.items c.grow_units.new.units.items front in omega (arith, vars, more, room.units))
-    (let more = longer s.tags.items c.grow_tags.new.tags.items tags_front in omega (arith, vars, more, room.tags)) front tags_front
+    (omega (arith, vars, room.store, c.in_ok-reserve.ensures.ok))
+    (omega (arith, vars, room.scratch, c.in_ok-reserve-2.ensures.ok))
+    (let more = longer s.units.items c.grow_units.new.units.items front in omega
+    (arith, vars, more, room.units))
+    (let more = longer s.tags.items c.grow_tags.new.tags.items tags_front in omega
+    (arith, vars, more, room.tags)) front tags_front
 
 pub returns-clause-kept : goal.returns-clause-kept
 returns-clause-kept c =
@@ -50,6 +63,9 @@ returns-clause-kept c =
     let tags_front = c.grow_tags.ensures.front in
     let vars = c.in_ok-reserve-3.ensures.ok in
     search_reserved s c.reserve.new.self c.reserve-2.new.self c.grow_units.new.units c.grow_tags.new.tags c.reserve-3.new.self c.requires.kept c.depth.ensures.trail c.in_ok-reserve.ensures.clauses c.in_ok-reserve-3.ensures.entries c.in_ok-reserve-3.ensures.depth (omega (arith, vars))
-    (omega (arith, vars, room.store, c.in_ok-reserve.ensures.ok)) (omega (arith, vars, room.scratch, c.in_ok-reserve-2.ensures.ok))
-    (let more = longer s.units.items c.grow_units.new.units.items front in omega (arith, vars, more, room.units, c.in_ok-grow_units.ensures.ok))
-    (let more = longer s.tags.items c.grow_tags.new.tags.items tags_front in omega (arith, vars, more, room.tags, c.in_ok-grow_tags.ensures.ok)) front tags_front
+    (omega (arith, vars, room.store, c.in_ok-reserve.ensures.ok))
+    (omega (arith, vars, room.scratch, c.in_ok-reserve-2.ensures.ok))
+    (let more = longer s.units.items c.grow_units.new.units.items front in omega
+    (arith, vars, more, room.units, c.in_ok-grow_units.ensures.ok))
+    (let more = longer s.tags.items c.grow_tags.new.tags.items tags_front in omega
+    (arith, vars, more, room.tags, c.in_ok-grow_tags.ensures.ok)) front tags_front

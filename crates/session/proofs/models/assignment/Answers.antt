@@ -6,7 +6,8 @@ use Rattle.session.proofs.models.assignment.Goals as goal
 
 pub loop-var-preserved : goal.loop-var-preserved
 loop-var-preserved c =
-    subst (λ values. AreGiven (lits_of c.args.trail.now.entries) values (c.loop-var.var + 1)) (sym c.in_ok-push.ensures.items)
+    subst (λ values. AreGiven (lits_of c.args.trail.now.entries) values (c.loop-var.var + 1))
+    (sym c.in_ok-push.ensures.items)
     (one_given c.args.trail.now c.loop-var.values.items c.loop-var.var c.positive.result c.is_true.result c.is_true.ensures.trail c.loop-var.invariant c.positive.ensures c.is_true.ensures.value)
 
 pub returns : goal.returns

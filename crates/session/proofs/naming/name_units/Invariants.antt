@@ -5,7 +5,12 @@ use Rattle.session.proofs.naming.name_units.Given as goal
 abbrev pub invariant-loop-search : goal.invariant-loop-search
 invariant-loop-search l =
     IsSearching l.search
-    × (l.search ≡ record l.fn.search { units = l.search.units; tags = l.search.tags; named = l.search.named; steps = l.search.steps })
+    × (l.search ≡ record l.fn.search {
+      units = l.search.units;
+      tags = l.search.tags;
+      named = l.search.named;
+      steps = l.search.steps;
+    })
     × HasUnitsMore l.fn.search.steps.items l.search.steps.items
     × (l.search.named ≤ length l.fn.search.trail.entries)
 

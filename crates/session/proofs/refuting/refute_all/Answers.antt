@@ -1,4 +1,5 @@
-use Rattle.std.proofs.Common.{◌≡◌, ◌∙◌, ◌<◌, [], ◌∷◌, ℕ, List, Option, None, length, ap, sym, subst, arith}
+use Rattle.std.proofs.Common.{◌≡◌, ◌∙◌, ◌<◌, [], ◌∷◌, ℕ, List, Option, None, length, ap, sym, subst}
+use Rattle.std.proofs.Common.{arith}
 use Rattle.std.specs.Prelude.{All, Contains}
 use Rattle.sat_base.specs.Lit.{opposite}
 use Rattle.sat_base.specs.declared.origins.Ref.{Ref}
@@ -22,15 +23,21 @@ use Rattle.session.proofs.Steps.{units_steps, pushed_steps, steps_then}
 use Rattle.session.proofs.refuting.refute_all.Goals as goal
 
 abbrev Derives : ℕ → Step → List ArenaClause → List Ref → List ℕ → Type 0
-Derives id step clauses units tags = (table : Ref → Option Known) → IsNameOf table (clause_at clauses id).origin (clause_at clauses id).lits (clause_at clauses id).tag
+Derives id step clauses units tags = (table : Ref → Option Known)
+    → IsNameOf table (clause_at clauses id).origin (clause_at clauses id).lits
+    (clause_at clauses id).tag
     → KnowsOpposites table units tags None (clause_at clauses id).lits → IsOkStep table step
 
 pub unit_step-requires-clause-proper : goal.unit_step-requires-clause-proper
 unit_step-requires-clause-proper c =
     let old = c.args.search.now in
-    let store_is : c.arena.result.now ≡ old.store.clauses = c.arena.ensures.value ∙ ap (λ (x : Search). x.store.clauses) c.in_ok-name_units.ensures.parts in
-    subst (λ (xs : List ArenaClause). (lit : ℕ) → Contains (clause_at xs c.args.conflict).lits lit → Contains (clause_at xs c.args.conflict).lits (opposite lit) → ⊥) (sym store_is)
-    (λ lit has both. false_proper old.trail (clause_at old.store.clauses c.args.conflict).lits c.requires.kept.trail c.requires.refuted (record { lit = lit; has = has; has_opposite = both }))
+    let store_is : c.arena.result.now ≡ old.store.clauses = c.arena.ensures.value
+    ∙ ap (λ (x : Search). x.store.clauses) c.in_ok-name_units.ensures.parts in
+    subst (λ (xs : List ArenaClause). (lit : ℕ) → Contains (clause_at xs c.args.conflict).lits lit
+    → Contains (clause_at xs c.args.conflict).lits (opposite lit) → ⊥) (sym store_is)
+    (λ lit has both. false_proper old.trail
+    (clause_at old.store.clauses c.args.conflict).lits c.requires.kept.trail c.requires.refuted
+    (record { lit = lit; has = has; has_opposite = both }))
 
 pub push_step-requires-clause-ok : goal.push_step-requires-clause-ok
 push_step-requires-clause-ok c =
@@ -43,11 +50,16 @@ push_step-requires-clause-ok c =
     let derived = subst (λ clauses. Derives c.args.conflict step clauses s.units.items s.tags.items) c.arena.ensures.value
     (subst (λ units. Derives c.args.conflict step c.arena.result.now units s.tags.items) c.deref.ensures.value
     (subst (λ tags. Derives c.args.conflict step c.arena.result.now c.deref.result.now tags) c.deref-2.ensures.value c.in_ok-step.ensures.derived)) in
-    derived (table_of s) (name_of_clause s c.args.conflict e.kept (subst (λ (x : StoreView). c.args.conflict < length x.clauses) (sym store_is) c.requires.known))
-    (zero_opposites s (clause_at s.store.clauses c.args.conflict).lits e.kept (ap (λ (t : TrailView). t.depth) trail_is ∙ c.requires.zero)
+    derived (table_of s) (name_of_clause s c.args.conflict e.kept
+    (subst (λ (x : StoreView). c.args.conflict < length x.clauses)
+    (sym store_is) c.requires.known))
+    (zero_opposites s (clause_at s.store.clauses c.args.conflict).lits e.kept
+    (ap (λ (t : TrailView). t.depth) trail_is ∙ c.requires.zero)
     (e.all ∙ ap (λ (t : TrailView). length t.entries) (sym trail_is))
-    (subst (λ (x : StoreView). IsFalseClause (lits_of s.trail.entries) (clause_at x.clauses c.args.conflict).lits) (sym store_is)
-    (subst (λ (t : TrailView). IsFalseClause (lits_of t.entries) (clause_at old.store.clauses c.args.conflict).lits) (sym trail_is) c.requires.refuted)))
+    (subst (λ (x : StoreView). IsFalseClause (lits_of s.trail.entries)
+    (clause_at x.clauses c.args.conflict).lits) (sym store_is)
+    (subst (λ (t : TrailView). IsFalseClause (lits_of t.entries)
+    (clause_at old.store.clauses c.args.conflict).lits) (sym trail_is) c.requires.refuted)))
 
 pub returns-clause-last : goal.returns-clause-last
 returns-clause-last c =
@@ -55,14 +67,18 @@ returns-clause-last c =
     let mid = c.name_units.new.search.steps.items in
     let new = c.push_step.new.search.steps.items in
     let number = c.in_ok-number.number in
-    steps_then old mid new [] (number ∷ []) (units_steps old mid c.in_ok-name_units.ensures.steps) (pushed_steps mid new c.in_ok-step.step number c.in_ok-number.ensures.pushed c.in_ok-number.ensures.number)
+    steps_then old mid new [] (number ∷ []) (units_steps old mid c.in_ok-name_units.ensures.steps)
+    (pushed_steps mid new c.in_ok-step.step number c.in_ok-number.ensures.pushed c.in_ok-number.ensures.number)
 
 pub returns-clause-answer : goal.returns-clause-answer
 returns-clause-answer c = λ cube.
     let new = c.push_step.new.search in
     let part_is : c.of_ascending.result ≡ [] = c.of_ascending.ensures ∙ c.new.ensures.items in
-    subst (λ (store : StoreView). IsRefutation (inputs_of store.clauses) new.steps.items cube c.of_ascending.result c.in_ok-number.number)
-    (ap (λ (x : Search). x.store) c.in_ok-number.ensures.parts ∙ ap (λ (x : Search). x.store) c.in_ok-name_units.ensures.parts)
+    subst (λ (store : StoreView). IsRefutation
+    (inputs_of store.clauses) new.steps.items cube c.of_ascending.result c.in_ok-number.number)
+    (ap (λ (x : Search). x.store) c.in_ok-number.ensures.parts
+    ∙ ap (λ (x : Search). x.store) c.in_ok-name_units.ensures.parts)
     (refutation_from new cube c.of_ascending.result c.in_ok-number.number c.in_ok-step.step c.in_ok-number.ensures.kept c.in_ok-number.ensures.name
-    (subst (λ (part : List ℕ). All (Contains cube) part) (sym part_is) (λ k d lt. absurd (omega (arith, lt))))
+    (subst (λ (part : List ℕ). All (Contains cube) part) (sym part_is)
+    (λ k d lt. absurd (omega (arith, lt))))
     (nothing_negated c.in_ok-step.step.clause c.of_ascending.result c.in_ok-step.ensures.clause part_is))

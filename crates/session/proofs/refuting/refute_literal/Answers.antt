@@ -17,7 +17,8 @@ use Rattle.session.proofs.Steps.{pushed_steps}
 use Rattle.session.proofs.refuting.refute_literal.Goals as goal
 
 abbrev Derives : List Entry → Step → List ArenaClause → List Ref → List ℕ → Type 0
-Derives entries step clauses units tags = (table : Ref → Option Known) → KnowsArena table clauses → KnowsUnits table entries units tags → IsRefutedBy table step
+Derives entries step clauses units tags = (table : Ref → Option Known) → KnowsArena table clauses
+    → KnowsUnits table entries units tags → IsRefutedBy table step
 
 pub push_step-requires-clause-ok : goal.push_step-requires-clause-ok
 push_step-requires-clause-ok c =
@@ -35,7 +36,9 @@ pub returns-clause-answer : goal.returns-clause-answer
 returns-clause-answer c = λ cube for_cube stands.
     let s = c.args.search.now in
     let new = c.push_step.new.search in
-    subst (λ (store : StoreView). IsRefutation (inputs_of store.clauses) new.steps.items cube c.in_ok-part.part c.in_ok-number.number) (ap (λ (x : Search). x.store) c.in_ok-number.ensures.parts)
+    subst (λ (store : StoreView). IsRefutation
+    (inputs_of store.clauses) new.steps.items cube c.in_ok-part.part c.in_ok-number.number)
+    (ap (λ (x : Search). x.store) c.in_ok-number.ensures.parts)
     (refutation_from new cube c.in_ok-part.part c.in_ok-number.number c.in_ok-part.step c.in_ok-number.ensures.kept c.in_ok-number.ensures.name
     (part_within s.trail cube c.in_ok-part.part c.args.lit c.requires.kept.trail for_cube c.in_ok-part.ensures.part stands c.requires.refuted)
     c.in_ok-part.ensures.negation)

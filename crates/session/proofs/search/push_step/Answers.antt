@@ -13,7 +13,11 @@ pub returns-clause-name : goal.returns-clause-name
 returns-clause-name c = last_named c.args.search.now c.push.new.self c.args.step c.len.result c.in_ok-push.ensures.items (omega (arith, c.len.ensures))
 
 pub returns-in_err-push-clause-front : goal.returns-in_err-push-clause-front
-returns-in_err-push-clause-front c = record { more = []; is = c.in_err-push.ensures.items ∙ sym (append-nil c.args.search.now.steps.items) }
+returns-in_err-push-clause-front c = record {
+  more = [];
+  is = c.in_err-push.ensures.items
+      ∙ sym (append-nil c.args.search.now.steps.items);
+}
 
 pub returns-clause-front : goal.returns-clause-front
 returns-clause-front c = record { more = c.args.step ∷ []; is = c.in_ok-push.ensures.items }

@@ -10,7 +10,10 @@ returns-clause-own g c =
     let low : 1 ≤ number = omega arith in
     let high : number ≤ length c.steps-steps.result.now = omega arith in (
       known_of c.index-steps-number.result,
-      subst (λ steps. IsStep steps number (known_of c.index-steps-number.result)) c.steps-steps.ensures.value (step_read c.steps-steps.result.now number c.index-steps-number.result low high (sym c.index-steps-number.is)),
+      subst (λ steps. IsStep steps number
+          (known_of c.index-steps-number.result)) c.steps-steps.ensures.value
+          (step_read c.steps-steps.result.now number c.index-steps-number.result low high
+          (sym c.index-steps-number.is)),
       λ both. (let told = c.is_tautology.ensures.1 both in let not = c.if-is_tautology.false in cc),
     )
 
@@ -18,4 +21,7 @@ pub returns-clause-held : goal.returns-clause-held
 returns-clause-held g c =
     let same = c.learnt-learnt.ensures in
     let some : 0 < length c.learnt-learnt.result.now = omega arith in
-    learnt_held c.args.session.now.solver 0 (get_or c.learnt-learnt.result.now 0 0) c.steps-steps.ensures.sound (subst (λ numbers. 0 < length numbers) same some) (ap (λ numbers. get_or numbers 0 0) (sym same))
+    learnt_held c.args.session.now.solver 0
+    (get_or c.learnt-learnt.result.now 0 0) c.steps-steps.ensures.sound
+    (subst (λ numbers. 0 < length numbers) same some)
+    (ap (λ numbers. get_or numbers 0 0) (sym same))

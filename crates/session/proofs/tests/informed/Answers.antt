@@ -6,4 +6,6 @@ use Rattle.session.specs.Session.{SessionView}
 use Rattle.session.proofs.tests.informed.Goals as goal
 
 pub import-requires-clause-takable : goal.import-requires-clause-takable
-import-requires-clause-takable g c = subst (λ (session : SessionView). (one : Known) × IsTakable session.solver (arc_value c.args.packet.now) one) (sym c.in_ok-session.ensures) c.requires
+import-requires-clause-takable g c = subst (λ (session : SessionView). (one : Known)
+    × IsTakable session.solver (arc_value c.args.packet.now) one)
+    (sym c.in_ok-session.ensures) c.requires

@@ -9,4 +9,6 @@ pub returns : goal.returns
 returns g c =
     let session = c.in_ok-session.session in
     let is = c.in_ok-session.ensures in
-    takable_over session.solver (loaded no_inputs c.args.clauses.now) (arc_value c.in_ok-packet.packet) (sym is.inputs) (sym is.bound) c.in_ok-packet.ensures.takable
+    takable_over session.solver (loaded no_inputs c.args.clauses.now)
+    (arc_value c.in_ok-packet.packet) (sym is.inputs)
+    (sym is.bound) c.in_ok-packet.ensures.takable

@@ -5,4 +5,5 @@ use Rattle.session.proofs.unit_steps.unit_step.Given as goal
 
 abbrev pub invariant-loop-lit : goal.invariant-loop-lit
 invariant-loop-lit l =
-    (l.hints.items ≡ names_of l.units l.kept (take l.lit-index l.lit-items)) × (l.tag ≡ greatest (tags_of l.tags l.kept (take l.lit-index l.lit-items)))
+    (l.hints.items ≡ names_of l.units l.kept (take l.lit-index l.lit-items))
+    × (l.tag ≡ greatest (tags_of l.tags l.kept (take l.lit-index l.lit-items)))

@@ -12,6 +12,9 @@ invariant_of-self c =
     record {
       kept = e.kept;
       zero = e.zero;
-      names = names_fit_taken c.take_in.result (solver_of c.self.inside.search) (solver_of c.take_in.new.search) c.self.inside.names.items c.args.place (arc_value c.args.packet.now) e.ok e.err
-          (ap (λ (view : SessionView). packet_at view.solver.packets c.args.place) c.self.view_is ∙ c.requires.unknown) c.self.invariant.names;
+      names = names_fit_taken c.take_in.result (solver_of c.self.inside.search)
+          (solver_of c.take_in.new.search) c.self.inside.names.items c.args.place
+          (arc_value c.args.packet.now) e.ok e.err
+          (ap (λ (view : SessionView). packet_at view.solver.packets c.args.place) c.self.view_is
+          ∙ c.requires.unknown) c.self.invariant.names;
     }

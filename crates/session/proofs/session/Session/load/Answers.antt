@@ -5,4 +5,10 @@ use Rattle.session.proofs.session.Session.load.Goals as goal
 pub load-requires-clause-few : goal.load-requires-clause-few
 load-requires-clause-few c =
     let count = c.self.invariant.kept.counted.inputs in
-    omega (arith, c.requires.clauses, count, ap (λ (view : SessionView). length view.solver.inputs) c.self.view_is)
+    omega (
+      arith,
+      c.requires.clauses,
+      count,
+      ap (λ
+          (view : SessionView). length view.solver.inputs) c.self.view_is,
+    )

@@ -5,7 +5,8 @@ use Rattle.sat_base.specs.declared.origins.Ref.{Ref}
 use Rattle.trace_core.specs.Known.{Known, item_at}
 use Rattle.trace_core.specs.Trace.{known_of}
 use Rattle.trace_core.specs.declared.derivation.Step.{Step}
-use Rattle.trace_trim.specs.Packed.{CiteEarlierOwn, IsOkWhereOwnAreOk, HasGreatestTagLast, AreOfOwn, ends_in}
+use Rattle.trace_trim.specs.Packed.{CiteEarlierOwn, IsOkWhereOwnAreOk, HasGreatestTagLast, AreOfOwn}
+use Rattle.trace_trim.specs.Packed.{ends_in}
 use Rattle.session.specs.Solver.{IsStep, inputs_of, shared_by}
 use Rattle.session.specs.Searching.{packets_of, solver_of}
 use Rattle.session.proofs.Sound.{sound}
@@ -18,16 +19,28 @@ use Rattle.session.proofs.session.Session.packet.Goals as goal
 pub pack-requires-clause-earlier : goal.pack-requires-clause-earlier
 pack-requires-clause-earlier c =
     let s = c.self.inside.search in
-    subst CiteEarlierOwn (sym c.deref.ensures.value) (ok_look_back (inputs_of s.store.clauses) (shared_by (packets_of s)) s.steps.items (sound s c.self.invariant.kept).ok)
+    subst CiteEarlierOwn (sym c.deref.ensures.value)
+    (ok_look_back (inputs_of s.store.clauses) (shared_by (packets_of s)) s.steps.items
+    (sound s c.self.invariant.kept).ok)
 
 pub returns-clause-sharable : goal.returns-clause-sharable
 returns-clause-sharable c =
     let s = c.self.inside.search in
     let steps = c.deref.ensures.value in
-    subst (λ (view : SessionView). IfOk c.pack.result (λ packet. (one : Known) → IsStep view.solver.steps c.args.step one → IsSharable view.solver one packet)) c.self.view_is
-    (sharable c.pack.result (solver_of s) c.self.inside.names.items c.args.step (sound s c.self.invariant.kept) c.self.invariant.names
-    (subst (λ (view : SessionView). (one : Known) × IsStep view.solver.steps c.args.step one × (IsTautology one.clause → ⊥)) (sym c.self.view_is) c.requires.own)
-    (subst (λ (names : List (Option Ref)). IfOk c.pack.result (IsOkWhereOwnAreOk s.steps.items names)) c.deref-2.ensures.value (subst (λ (own : List Step). IfOk c.pack.result (IsOkWhereOwnAreOk own c.deref-2.result.now)) steps c.pack.ensures.ok))
-    (subst (λ (own : List Step). IfOk c.pack.result (λ packet. ends_in packet ≡ item_at (map known_of own) c.args.step)) steps c.pack.ensures.ends)
-    (subst (λ (own : List Step). IfOk c.pack.result (HasGreatestTagLast own)) steps c.pack.ensures.tags)
+    subst (λ (view : SessionView). IfOk c.pack.result
+    (λ packet. (one : Known) → IsStep view.solver.steps c.args.step one
+    → IsSharable view.solver one packet)) c.self.view_is
+    (sharable c.pack.result (solver_of s) c.self.inside.names.items c.args.step
+    (sound s c.self.invariant.kept) c.self.invariant.names
+    (subst (λ (view : SessionView). (one : Known) × IsStep view.solver.steps c.args.step one
+    × (IsTautology one.clause → ⊥)) (sym c.self.view_is) c.requires.own)
+    (subst (λ (names : List (Option Ref)). IfOk c.pack.result
+    (IsOkWhereOwnAreOk s.steps.items names)) c.deref-2.ensures.value
+    (subst (λ (own : List Step). IfOk c.pack.result
+    (IsOkWhereOwnAreOk own c.deref-2.result.now)) steps c.pack.ensures.ok))
+    (subst (λ (own : List Step). IfOk c.pack.result
+    (λ packet. ends_in packet
+    ≡ item_at (map known_of own) c.args.step)) steps c.pack.ensures.ends)
+    (subst (λ (own : List Step). IfOk c.pack.result
+    (HasGreatestTagLast own)) steps c.pack.ensures.tags)
     (subst (λ (own : List Step). IfOk c.pack.result (AreOfOwn own)) steps c.pack.ensures.of_own))

@@ -1,4 +1,5 @@
-use Rattle.std.proofs.Common.{◌≡◌, ◌∙◌, ◌++◌, ◌≤◌, ℕ, List, Option, None, length, take, ap, sym, subst, arith}
+use Rattle.std.proofs.Common.{◌≡◌, ◌∙◌, ◌++◌, ◌≤◌, ℕ, List, Option, None, length, take, ap, sym}
+use Rattle.std.proofs.Common.{subst, arith}
 use Rattle.std.specs.Prelude.{Contains, IsSome, replicate}
 use Rattle.std.specs.Arc.{arc_value}
 use Rattle.std.proofs.Math.Seq.{take-append_seam}
@@ -20,29 +21,39 @@ use Rattle.session.proofs.session.Session.published.Goals as goal
 pub packed_numbers-requires-clause-earlier : goal.packed_numbers-requires-clause-earlier
 packed_numbers-requires-clause-earlier c =
     let s = c.self.inside.search in
-    subst CiteEarlierOwn (sym c.deref.ensures.value) (ok_look_back (inputs_of s.store.clauses) (shared_by (packets_of s)) s.steps.items (sound s c.self.invariant.kept).ok)
+    subst CiteEarlierOwn (sym c.deref.ensures.value)
+    (ok_look_back (inputs_of s.store.clauses) (shared_by (packets_of s)) s.steps.items
+    (sound s c.self.invariant.kept).ok)
 
 pub know-requires-clause-held : goal.know-requires-clause-held
 know-requires-clause-held c =
-    let (one, is, held) = subst (λ (view : SessionView). (one : Known) × IsStep view.solver.steps c.args.step one × Contains view.solver.held one) (sym c.self.view_is) c.requires.held in
-    let pack = subst (λ (view : SessionView). IsPack view.solver.steps view.names c.args.step (arc_value c.args.packet.now)) (sym c.self.view_is) c.requires.pack in
+    let (one, is, held) = subst (λ (view : SessionView). (one : Known)
+    × IsStep view.solver.steps c.args.step one × Contains view.solver.held one)
+    (sym c.self.view_is) c.requires.held in
+    let pack = subst (λ (view : SessionView). IsPack view.solver.steps view.names c.args.step
+    (arc_value c.args.packet.now)) (sym c.self.view_is) c.requires.pack in
     record { one = one; last = packed_ends c.self.inside.search.steps.items c.self.inside.names.items c.args.step (arc_value c.args.packet.now) pack ∙ is; held = held }
 
 -- the numbers that are packed, over the session's fields
-packed : (c : goal.After-deref-in-Ok) → AreNumbersPacked c.self.inside.search.steps.items c.self.inside.names.items c.args.step c.in_ok-numbers.numbers.items
+packed : (c : goal.After-deref-in-Ok)
+    → AreNumbersPacked c.self.inside.search.steps.items c.self.inside.names.items c.args.step c.in_ok-numbers.numbers.items
 packed c =
     subst (λ (names : List (Option Ref)). AreNumbersPacked c.self.inside.search.steps.items names c.args.step c.in_ok-numbers.numbers.items) c.deref-2.ensures.value
     (subst (λ (own : List Step). AreNumbersPacked own c.deref-2.result.now c.args.step c.in_ok-numbers.numbers.items) c.deref.ensures.value c.in_ok-numbers.ensures)
 
 there : (c : goal.After-deref-in-Ok) → IsSome (item_at c.self.inside.search.steps.items c.args.step)
 there c =
-    let (one, is, held) = subst (λ (view : SessionView). (one : Known) × IsStep view.solver.steps c.args.step one × Contains view.solver.held one) (sym c.self.view_is) c.requires.held in
+    let (one, is, held) = subst (λ (view : SessionView). (one : Known)
+    × IsStep view.solver.steps c.args.step one × Contains view.solver.held one)
+    (sym c.self.view_is) c.requires.held in
     step_there c.self.inside.search.steps.items c.args.step one is
 
-low : (c : goal.After-deref-in-Ok) → (number : ℕ) → Contains c.deref-in-Ok.result.now number → (1 ≤ number) × (number ≤ length c.reach.new.names.items)
+low : (c : goal.After-deref-in-Ok) → (number : ℕ) → Contains c.deref-in-Ok.result.now number
+    → (1 ≤ number) × (number ≤ length c.reach.new.names.items)
 low c number has =
     let s = c.self.inside.search in
-    let earlier = ok_look_back (inputs_of s.store.clauses) (shared_by (packets_of s)) s.steps.items (sound s c.self.invariant.kept).ok in
+    let earlier = ok_look_back (inputs_of s.store.clauses) (shared_by (packets_of s)) s.steps.items
+    (sound s c.self.invariant.kept).ok in
     let within = packed_within s.steps.items c.self.inside.names.items c.args.step c.in_ok-numbers.numbers.items earlier (there c) (packed c) number (subst (λ (xs : List ℕ). Contains xs number) c.deref-in-Ok.ensures.value has) in
     (within.0, omega (arith, within.1, c.in_ok-reach.ensures.ok.2))
 
@@ -50,8 +61,10 @@ pub name_steps-requires-clause-low : goal.name_steps-requires-clause-low
 name_steps-requires-clause-low c = low c
 
 -- what names are after there is room
-grown : (old now : List (Option Ref)) (count number : ℕ) → now ≡ old ++ replicate count None → name_of now number ≡ name_of old number
-grown old now count number are = ap (λ (xs : List (Option Ref)). name_of xs number) are ∙ grown_name old count number
+grown : (old now : List (Option Ref)) (count number : ℕ) → now ≡ old ++ replicate count None
+    → name_of now number ≡ name_of old number
+grown old now count number are = ap (λ (xs : List (Option Ref)). name_of xs number) are
+    ∙ grown_name old count number
 
 pub invariant_of-self-in-Ok : goal.invariant_of-self-in-Ok
 invariant_of-self-in-Ok c =
@@ -60,16 +73,25 @@ invariant_of-self-in-Ok c =
     let e = c.know.ensures in
     let room = c.in_ok-reach.ensures.ok in
     let numbers = c.in_ok-numbers.numbers.items in
-    let (one, is, held) = subst (λ (view : SessionView). (one : Known) × IsStep view.solver.steps c.args.step one × Contains view.solver.held one) (sym c.self.view_is) c.requires.held in
-    let pack = subst (λ (view : SessionView). IsPack view.solver.steps view.names c.args.step (arc_value c.args.packet.now)) (sym c.self.view_is) c.requires.pack in
-    let reached = subst (λ (xs : List (Option Ref)). AreNumbersPacked s.steps.items xs c.args.step numbers) c.deref-2.ensures.value
+    let (one, is, held) = subst (λ (view : SessionView). (one : Known)
+    × IsStep view.solver.steps c.args.step one × Contains view.solver.held one)
+    (sym c.self.view_is) c.requires.held in
+    let pack = subst (λ (view : SessionView). IsPack view.solver.steps view.names c.args.step
+    (arc_value c.args.packet.now)) (sym c.self.view_is) c.requires.pack in
+    let reached = subst (λ (xs : List
+    (Option Ref)). AreNumbersPacked s.steps.items xs c.args.step numbers) c.deref-2.ensures.value
     (subst (λ (own : List Step). AreNumbersPacked own c.deref-2.result.now c.args.step numbers) c.deref.ensures.value c.in_ok-numbers.ensures) in
-    let within = item_at-within s.steps.items c.args.step (step_there s.steps.items c.args.step one is) in
+    let within = item_at-within s.steps.items c.args.step
+    (step_there s.steps.items c.args.step one is) in
     record {
       kept = e.kept;
       zero = e.depth ∙ c.self.invariant.zero;
-      names = published_fit (solver_of s) (solver_of c.know.new.search) names c.reach.new.names.items c.name_steps.new.names.items c.args.step c.args.place (arc_value c.args.packet.now) numbers c.self.invariant.names
-          c.in-Ok.ensures.ok (ap (λ (view : SessionView). packet_at view.solver.packets c.args.place) c.self.view_is ∙ c.requires.unknown) pack reached (λ number. grown names c.reach.new.names.items room.0 number room.1)
+      names = published_fit (solver_of s)
+          (solver_of c.know.new.search) names c.reach.new.names.items c.name_steps.new.names.items c.args.step c.args.place (arc_value c.args.packet.now) numbers c.self.invariant.names
+          c.in-Ok.ensures.ok (ap (λ
+          (view : SessionView). packet_at view.solver.packets c.args.place) c.self.view_is
+          ∙ c.requires.unknown) pack reached
+          (λ number. grown names c.reach.new.names.items room.0 number room.1)
           (subst (AreNamedAnew c.reach.new.names.items c.name_steps.new.names.items c.args.place) c.deref-in-Ok.ensures.value c.name_steps.ensures.named)
           (omega (arith, c.name_steps.ensures.size, room.2, c.self.invariant.names.few, within.1));
     }
@@ -84,9 +106,14 @@ returns-in-Ok-clause-ok c =
     subst (λ (view : SessionView). Publishes view (record { solver = solver_of c.know.new.search; names = c.name_steps.new.names.items }) c.args.step c.args.place (arc_value c.args.packet.now)) c.self.view_is (record {
       knows = c.in-Ok.ensures.ok;
       numbers = numbers;
-      packed = subst (λ (xs : List (Option Ref)). AreNumbersPacked s.steps.items xs c.args.step numbers) c.deref-2.ensures.value
+      packed = subst (λ (xs : List
+          (Option Ref)). AreNumbersPacked s.steps.items xs c.args.step numbers) c.deref-2.ensures.value
           (subst (λ (own : List Step). AreNumbersPacked own c.deref-2.result.now c.args.step numbers) c.deref.ensures.value c.in_ok-numbers.ensures);
-      names = record { named = named.named; others = λ number none. named.others number none ∙ grown names c.reach.new.names.items room.0 number room.1 };
+      names = record {
+        named = named.named;
+        others = λ number none. named.others number none
+            ∙ grown names c.reach.new.names.items room.0 number room.1;
+      };
     })
 
 pub invariant_of-self-in-Err : goal.invariant_of-self-in-Err
@@ -96,9 +123,13 @@ invariant_of-self-in-Err c =
     let e = c.know.ensures in
     let room = c.in_ok-reach.ensures.ok in
     let same_names = c.truncate.ensures.items ∙ ap (take c.len-before.result) room.1
-    ∙ ap (λ n. take n (names ++ replicate room.0 None)) (let n : c.len-before.result ≡ length names = omega (arith, c.len-before.ensures) in n) ∙ take-append_seam names (replicate room.0 None) in
+    ∙ ap (λ n. take n (names ++ replicate room.0 None))
+    (let n : c.len-before.result ≡ length names = omega (arith, c.len-before.ensures) in n)
+    ∙ take-append_seam names (replicate room.0 None) in
     record {
       kept = e.kept;
       zero = e.depth ∙ c.self.invariant.zero;
-      names = subst (λ (solver : Solver). AreNamesFit solver c.truncate.new.self.items) (sym c.in-Err.ensures.err) (subst (AreNamesFit (solver_of s)) (sym same_names) c.self.invariant.names);
+      names = subst (λ (solver : Solver). AreNamesFit solver c.truncate.new.self.items)
+          (sym c.in-Err.ensures.err) (subst (AreNamesFit (solver_of s))
+          (sym same_names) c.self.invariant.names);
     }

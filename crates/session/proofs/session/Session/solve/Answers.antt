@@ -10,5 +10,6 @@ invariant_of-self c =
     record {
       kept = c.solve.ensures.kept;
       zero = c.solve.ensures.zero;
-      names = names_fit_more old new c.self.inside.names.items keeps.steps (same_packets_keep old.packets new.packets keeps.packets) c.self.invariant.names;
+      names = names_fit_more old new c.self.inside.names.items keeps.steps
+          (same_packets_keep old.packets new.packets keeps.packets) c.self.invariant.names;
     }
