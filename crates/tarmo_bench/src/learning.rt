@@ -5,6 +5,8 @@
 
 mod instance;
 mod search;
+#[cfg(test)]
+mod tests;
 mod units;
 
 use crate::learning::instance::{Row, conflict_after, learn_once};
