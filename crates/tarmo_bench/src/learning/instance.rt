@@ -25,7 +25,7 @@ pub struct Conflict {
 }
 
 // The literals that these numbers write; others are passed over.
-fn literals(alloc: Global, numbers: &[i32]) -> Result<Vec<Lit>, AllocError> {
+pub fn literals(alloc: Global, numbers: &[i32]) -> Result<Vec<Lit>, AllocError> {
     let mut lits = Vec::new(alloc);
     for number in numbers {
         if let Some(lit) = Lit::of(*number) {
@@ -42,7 +42,7 @@ fn is_within(clause: &Clause, vars: u32) -> bool
 }
 
 // A store of the rows, the i-th of which is `Input(i)`. Rows with other variables are left out.
-fn load(alloc: Global, vars: u32, rows: &[Row]) -> Result<Store, AllocError>
+pub fn load(alloc: Global, vars: u32, rows: &[Row]) -> Result<Store, AllocError>
     ensures { IfOk result (λ store. store.vars ≡ vars) }
 {
     let mut store = Store::new(alloc);

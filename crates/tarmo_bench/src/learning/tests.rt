@@ -1,12 +1,16 @@
 //! Conflicts worked by hand, and refuted parts.
 
-use crate::learning::instance::{Row, conflict_after, learn_once, refuted_after};
-use analyze::Scratch;
-use sat_base::Lit;
+use crate::learning::instance::{Row, conflict_after, learn_once, literals, load};
+use crate::learning::search::{begin, search};
+use crate::learning::units::Units;
+use analyze::{Scratch, refute};
 use sat_base::Ref::{self, Input, Own};
-use std::alloc::Global;
+use sat_base::{Cube, Lit};
+use std::alloc::{AllocError, Global};
 use std::process::Abort;
 use std::test::Fail;
+use trace_core::Step;
+use trail_core::Trail;
 
 const VARS: u32 = 9;
 
@@ -144,6 +148,46 @@ fn conflicts_teach_what_was_worked_by_hand(rt: HostRuntime) -> Result<(), Fail> 
         check_conflict(rt.alloc(), &rt, wanted)?;
     }
     Ok(())
+}
+
+// The part that refutes a literal which is false after these decisions; none where it isn't, or a
+// conflict comes before.
+fn refuted_after(
+    alloc: Global,
+    vars: u32,
+    rows: &[Row],
+    decisions: &[i32],
+    number: i32,
+) -> Result<Option<(Cube, Step)>, AllocError> {
+    let mut store = load(alloc, vars, rows)?;
+    let mut trail = Trail::new(alloc);
+    trail.reserve(vars)?;
+    let mut scratch = Scratch::new(alloc);
+    scratch.reserve(vars)?;
+    if !begin(&mut store, &mut trail) {
+        return Ok(None);
+    }
+    let units = Units::of(alloc, vars, store.arena(), &trail)?;
+    let decisions = literals(alloc, decisions)?;
+    let None = search(&mut store, &mut trail, vars, &decisions) else {
+        return Ok(None);
+    };
+    let Some(lit) = Lit::of(number) else {
+        return Ok(None);
+    };
+    let Some(false) = trail.value(lit) else {
+        return Ok(None);
+    };
+    let answer = refute(
+        alloc,
+        &mut scratch,
+        store.arena(),
+        &units.names,
+        &units.tags,
+        &trail,
+        lit,
+    )?;
+    Ok(Some(answer))
 }
 
 // Clauses of a refuted literal: at level 0, by decisions, and as a decision itself.
