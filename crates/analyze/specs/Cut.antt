@@ -1,6 +1,7 @@
 -- Which of the places seen stay, as literals of the clause or the part, and which are resolved
 -- away.
-use Rattle.std.specs.Prelude.{◌≡◌, ◌≢◌, ℕ, ◌<◌, ◌≤◌, ◌⊎◌, Bool, List, length, Contains, IsTrue, None, Some}
+use Rattle.std.specs.Prelude.{◌≡◌, ◌≢◌, ℕ, ◌<◌, ◌≤◌, ◌⊎◌, Bool, List, length, Contains, IsTrue}
+use Rattle.std.specs.Prelude.{None, Some}
 use Rattle.sat_base.specs.Lit.{variable}
 use Rattle.clause_arena.specs.Arena.{ArenaClause, clause_at}
 use Rattle.trail_core.specs.Trail.{Entry, StandsAt, entry_at}
@@ -66,7 +67,8 @@ pub record IsCut (clauses : List ArenaClause) (entries : List Entry) (depth : �
   pub kept_from : (place : ℕ) → Contains kept place → Contains handled place
   pub resolved_from : (place : ℕ) → Contains resolved place → Contains handled place
   pub apart : (place : ℕ) → Contains kept place → Contains resolved place → ⊥
-  pub stays : (place : ℕ) → Contains kept place → (0 < level_at entries place) × MayStay entries depth rule place
+  pub stays : (place : ℕ) → Contains kept place
+      → (0 < level_at entries place) × MayStay entries depth rule place
   pub resolvable : (place : ℕ) → Contains resolved place
       → (level_at entries place ≡ 0) ⊎ IsResolvable clauses entries analyzed place
   pub gone : (place : ℕ) → Contains resolved place → MayGo rule place

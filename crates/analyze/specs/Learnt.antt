@@ -1,5 +1,6 @@
 -- What a learnt clause is.
-use Rattle.std.specs.Prelude.{◌≡◌, ◌≢◌, ℕ, ◌<◌, ◌≤◌, ◌↔◌, ◌⊎◌, List, map, length, All, Contains, Option}
+use Rattle.std.specs.Prelude.{◌≡◌, ◌≢◌, ℕ, ◌<◌, ◌≤◌, ◌↔◌, ◌⊎◌, List, map, length, All, Contains}
+use Rattle.std.specs.Prelude.{Option}
 use Rattle.sat_base.specs.Lit.{variable}
 use Rattle.sat_base.specs.declared.origins.Ref.{Ref}
 use Rattle.trace_core.specs.Known.{Known, clause_of}
@@ -17,13 +18,15 @@ pub record IsAsserting (entries : List Entry) (depth back : ℕ) (clause : List 
   pub lit : ℕ
   pub stands : Contains clause lit
   pub present : IsOfLevel entries lit depth
-  pub others : (other : ℕ) → Contains clause other → other ≢ lit → (level : ℕ) × IsOfLevel entries other level × (0 < level) × (level ≤ back)
+  pub others : (other : ℕ) → Contains clause other → other ≢ lit
+      → (level : ℕ) × IsOfLevel entries other level × (0 < level) × (level ≤ back)
   pub below : back < depth
   pub reached : (back ≡ 0) ⊎ ((other : ℕ) × Contains clause other × IsOfLevel entries other back)
 
 -- no clause of the arena has its literals all within this one
 abbrev pub IsNew : List ArenaClause → List ℕ → Type 0
-IsNew clauses clause = (id : ℕ) → id < length clauses → ¬ All (Contains clause) (clause_at clauses id).lits
+IsNew clauses clause =
+    (id : ℕ) → id < length clauses → ¬ All (Contains clause) (clause_at clauses id).lits
 
 -- a variable above level 0 of one of these clauses
 pub record IsMetVariable (entries : List Entry) (hinted : List (List ℕ)) (var : ℕ) : Type 0 where
@@ -36,7 +39,11 @@ pub record IsMetVariable (entries : List Entry) (hinted : List (List ℕ)) (var 
 
 -- Over the table the step is ok with exact tag, each literal of its clause stands in a clause that
 -- a hint names, and the met variables are those above level 0 in these clauses.
-pub record IsLearntBy (table : Ref → Option Known) (entries : List Entry) (step : Step) (met : List ℕ) : Type 0 where
+pub record IsLearntBy (table : Ref → Option Known) (entries : List Entry) (step : Step)
+    (met : List ℕ) : Type 0 where
   pub ok : IsOkStep table step
-  pub covered : (lit : ℕ) → Contains step.clause lit → StandsInOneOf (map (λ hint. clause_of (table hint)) step.hints) lit
-  pub variables : (var : ℕ) → Contains met var ↔ IsMetVariable entries (map (λ hint. clause_of (table hint)) step.hints) var
+  pub covered : (lit : ℕ) → Contains step.clause lit
+      → StandsInOneOf (map (λ hint. clause_of (table hint)) step.hints) lit
+  pub variables : (var : ℕ)
+      → Contains met var
+      ↔ IsMetVariable entries (map (λ hint. clause_of (table hint)) step.hints) var

@@ -23,7 +23,8 @@ IsNegationOf part clause = (lit : ℕ) → Contains clause lit ↔ Contains part
 pub record IsRefutedBy (table : Ref → Option Known) (step : Step) : Type 0 where
   pub ok : IsOkStep table step
   pub covered : (IsTautology step.clause × (step.hints ≡ []))
-      ⊎ ((lit : ℕ) → Contains step.clause lit → StandsInOneOf (map (λ hint. clause_of (table hint)) step.hints) lit)
+      ⊎ ((lit : ℕ) → Contains step.clause lit
+      → StandsInOneOf (map (λ hint. clause_of (table hint)) step.hints) lit)
 
 -- the two literals of a variable as the part, and the tautology of them, which needs no hint
 pub record IsExcludedOf (lit : ℕ) (part : List ℕ) (step : Step) : Type 0 where

@@ -1,6 +1,7 @@
 //! The cut through the implication graph: which literals stay and which are resolved away.
 
-ghost use Rattle.std.specs.Prelude.{◌≡◌, ℕ, ◌<◌, ◌≤◌, List, [], length, Contains, IfOk, OnOk, IsTrue};
+ghost use Rattle.std.specs.Prelude.{◌≡◌, ℕ, ◌<◌, ◌≤◌, List, [], length, Contains, IfOk, OnOk};
+ghost use Rattle.std.specs.Prelude.{IsTrue};
 ghost use Rattle.std.specs.List.Sorted.{IsStrictlySortedBy};
 ghost use Rattle.std.specs.Ordering.{nat_cmp};
 ghost use Rattle.sat_base.specs.Lit.{variable};
@@ -150,7 +151,8 @@ fn learning_role(seen: &[bool], arena: &Arena, trail: &Trail, point: usize, plac
     requires founded { IsFounded (lits_of_each arena.now) trail.now.entries trail.now.depth }
     ensures { (analyzed : List ℕ) → Agree seen.now analyzed → Contains analyzed place
         → IsPrepared arena.now trail.now.entries trail.now.depth (Learning point) analyzed
-        → IsRole arena.now trail.now.entries trail.now.depth (Learning point) analyzed place result }
+        → IsRole arena.now trail.now.entries trail.now.depth
+        (Learning point) analyzed place result }
 {
     if place == point {
         return Role::Kept;

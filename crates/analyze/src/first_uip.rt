@@ -1,6 +1,7 @@
 //! The first unique implication point.
 
-ghost use Rattle.std.specs.Prelude.{◌≡◌, ◌≢◌, ◌+◌, ◌-◌, ◌<◌, ◌≤◌, ◌⊎◌, length, IfOk, IfNone, IfSome, Some, None};
+ghost use Rattle.std.specs.Prelude.{◌≡◌, ◌≢◌, ◌+◌, ◌-◌, ◌<◌, ◌≤◌, ◌⊎◌, length, IfOk, IfNone};
+ghost use Rattle.std.specs.Prelude.{IfSome, Some, None};
 ghost use Rattle.clause_arena.specs.Arena.{clause_at, lits_of_each};
 ghost use Rattle.trail_core.specs.Trail.{entry_at};
 ghost use Rattle.trail_core.specs.UnderTrail.{IsFounded, IsComplete};
@@ -28,15 +29,18 @@ pub(crate) fn first_uip(
     requires agree { Agree seen.old analyzed.old.items }
     requires distinct { AreDistinct analyzed.old.items }
     requires founded { IsFounded (lits_of_each arena.now) trail.now.entries trail.now.depth }
-    requires complete { IsComplete trail.now.entries (trail.now.depth - 1) (lits_of_each arena.now) }
+    requires complete { IsComplete trail.now.entries (trail.now.depth - 1)
+        (lits_of_each arena.now) }
     requires deep { 0 < trail.now.depth }
     requires resolved_from { IsResolvedFrom arena.now trail.now.entries trail.now.depth
         (clause_at arena.now conflict).lits (length trail.now.entries) analyzed.old.items }
-    requires under_way { IsUnderWay trail.now.entries trail.now.depth (length trail.now.entries) left
+    requires under_way { IsUnderWay trail.now.entries trail.now.depth
+        (length trail.now.entries) left
         analyzed.old.items }
     ensures agree { Agree seen.new analyzed.new.items }
     ensures distinct { AreDistinct analyzed.new.items }
-    ensures resolved_from { IfOk result (λ point. IsResolvedFrom arena.now trail.now.entries trail.now.depth
+    ensures resolved_from { IfOk result
+        (λ point. IsResolvedFrom arena.now trail.now.entries trail.now.depth
         (clause_at arena.now conflict).lits (point + 1) analyzed.new.items) }
     ensures point { IfOk result
         (λ point. IsFirstUip trail.now.entries trail.now.depth analyzed.new.items point) }
@@ -59,7 +63,8 @@ pub(crate) fn first_uip(
 fn reason_unless_last(trail: &Trail, place: usize, left: usize) -> Option<usize>
     requires { place < length trail.now.entries }
     ensures none { IfNone result ((left ≡ 1) ⊎ ((entry_at trail.now.entries place).reason ≡ None)) }
-    ensures some { IfSome result (λ id. (left ≢ 1) × ((entry_at trail.now.entries place).reason ≡ Some id)) }
+    ensures some { IfSome result
+        (λ id. (left ≢ 1) × ((entry_at trail.now.entries place).reason ≡ Some id)) }
 {
     if left == 1 {
         return None;

@@ -1,6 +1,7 @@
 //! Learning a clause from a conflict.
 
-ghost use Rattle.std.specs.Prelude.{◌≡◌, ◌≢◌, ℕ, ◌-◌, ◌<◌, ◌≤◌, ◌↔◌, ◌⊎◌, [], map, length, All, Contains, IfOk, Option};
+ghost use Rattle.std.specs.Prelude.{◌≡◌, ◌≢◌, ℕ, ◌-◌, ◌<◌, ◌≤◌, ◌↔◌, ◌⊎◌, [], map, length, All};
+ghost use Rattle.std.specs.Prelude.{Contains, IfOk, Option};
 ghost use Rattle.std.specs.List.Sorted.{IsStrictlySortedBy};
 ghost use Rattle.std.specs.Ordering.{nat_cmp};
 ghost use Rattle.sat_base.specs.Lit.{opposite};
@@ -66,18 +67,24 @@ pub fn learn(
     requires tags { trail.now.vars ≤ length tags.now }
     requires founded { IsFounded (lits_of_each arena.now) trail.now.entries trail.now.depth }
     requires deep { 0 < trail.now.depth }
-    requires complete { IsComplete trail.now.entries (trail.now.depth - 1) (lits_of_each arena.now) }
+    requires complete { IsComplete trail.now.entries (trail.now.depth - 1)
+        (lits_of_each arena.now) }
     requires known { conflict < length arena.now }
-    requires refuted { IsFalseClause (lits_of trail.now.entries) (clause_at arena.now conflict).lits }
+    requires refuted { IsFalseClause (lits_of trail.now.entries)
+        (clause_at arena.now conflict).lits }
     ensures scratch { scratch.new ≡ scratch.old }
     ensures step { IfOk result (λ learnt. learnt.step.clause ≡ learnt.clause) }
-    ensures refuted { IfOk result (λ learnt. IsFalseClause (lits_of trail.now.entries) learnt.clause) }
-    ensures asserting { IfOk result (λ learnt. IsAsserting trail.now.entries trail.now.depth learnt.back learnt.clause) }
+    ensures refuted { IfOk result
+        (λ learnt. IsFalseClause (lits_of trail.now.entries) learnt.clause) }
+    ensures asserting { IfOk result
+        (λ learnt. IsAsserting trail.now.entries trail.now.depth learnt.back learnt.clause) }
     ensures fresh { IfOk result (λ learnt. IsNew arena.now learnt.clause) }
     ensures ascending { IfOk result (λ learnt. IsStrictlySortedBy nat_cmp learnt.met) }
 
     // For every table that knows the arena's clauses and the unit clauses of level 0.
-    ensures derived { IfOk result (λ learnt. (table : Ref → Option Known) → KnowsArena table arena.now → KnowsUnits table trail.now.entries units.now tags.now
+    ensures derived { IfOk result
+        (λ learnt. (table : Ref → Option Known) → KnowsArena table arena.now
+        → KnowsUnits table trail.now.entries units.now tags.now
         → IsLearntBy table trail.now.entries learnt.step learnt.met) }
 {
     let seen = scratch.seen.as_mut_slice();
@@ -113,16 +120,22 @@ fn derive(
     requires tags { trail.now.vars ≤ length tags.now }
     requires founded { IsFounded (lits_of_each arena.now) trail.now.entries trail.now.depth }
     requires deep { 0 < trail.now.depth }
-    requires complete { IsComplete trail.now.entries (trail.now.depth - 1) (lits_of_each arena.now) }
+    requires complete { IsComplete trail.now.entries (trail.now.depth - 1)
+        (lits_of_each arena.now) }
     requires known { conflict < length arena.now }
-    requires refuted { IsFalseClause (lits_of trail.now.entries) (clause_at arena.now conflict).lits }
+    requires refuted { IsFalseClause (lits_of trail.now.entries)
+        (clause_at arena.now conflict).lits }
     ensures agree { Agree seen.new analyzed.new.items }
     ensures step { IfOk result (λ learnt. learnt.step.clause ≡ learnt.clause) }
-    ensures refuted { IfOk result (λ learnt. IsFalseClause (lits_of trail.now.entries) learnt.clause) }
-    ensures asserting { IfOk result (λ learnt. IsAsserting trail.now.entries trail.now.depth learnt.back learnt.clause) }
+    ensures refuted { IfOk result
+        (λ learnt. IsFalseClause (lits_of trail.now.entries) learnt.clause) }
+    ensures asserting { IfOk result
+        (λ learnt. IsAsserting trail.now.entries trail.now.depth learnt.back learnt.clause) }
     ensures fresh { IfOk result (λ learnt. IsNew arena.now learnt.clause) }
     ensures ascending { IfOk result (λ learnt. IsStrictlySortedBy nat_cmp learnt.met) }
-    ensures derived { IfOk result (λ learnt. (table : Ref → Option Known) → KnowsArena table arena.now → KnowsUnits table trail.now.entries units.now tags.now
+    ensures derived { IfOk result
+        (λ learnt. (table : Ref → Option Known) → KnowsArena table arena.now
+        → KnowsUnits table trail.now.entries units.now tags.now
         → IsLearntBy table trail.now.entries learnt.step learnt.met) }
 {
     let left = analyze_clause(seen, analyzed, trail, arena.lits(conflict))?;
@@ -147,7 +160,10 @@ fn derive(
 // The clause of the negations of the literals at these places.
 fn clause_of(alloc: Global, trail: &Trail, places: &[usize]) -> Result<Clause, AllocError>
     requires { All (λ place. place < length trail.now.entries) places.now }
-    ensures { IfOk result (λ clause. (lit : ℕ) → Contains clause lit ↔ Contains (map (lit_at trail.now.entries) places.now) (opposite lit)) }
+    ensures { IfOk result
+        (λ clause. (lit : ℕ)
+        → Contains clause lit
+        ↔ Contains (map (lit_at trail.now.entries) places.now) (opposite lit)) }
 {
     let mut lits = Vec::new(alloc);
     for place in places {
@@ -159,8 +175,11 @@ fn clause_of(alloc: Global, trail: &Trail, places: &[usize]) -> Result<Clause, A
 // The highest level of these places but one, 0 without others.
 fn highest_level(trail: &Trail, places: &[usize], but: usize) -> u32
     requires { All (λ place. place < length trail.now.entries) places.now }
-    ensures bound { (place : ℕ) → Contains places.now place → place ≢ but → level_at trail.now.entries place ≤ result }
-    ensures reached { (result ≡ 0) ⊎ ((place : ℕ) × Contains places.now place × (place ≢ but) × (level_at trail.now.entries place ≡ result)) }
+    ensures bound { (place : ℕ) → Contains places.now place → place ≢ but
+        → level_at trail.now.entries place ≤ result }
+    ensures reached { (result ≡ 0)
+        ⊎ ((place : ℕ) × Contains places.now place × (place ≢ but)
+        × (level_at trail.now.entries place ≡ result)) }
 {
     let mut highest: u32 = 0;
     for place in places {
@@ -176,7 +195,8 @@ fn variables_of(alloc: Global, trail: &Trail, analyzed: &[usize]) -> Result<Vari
     requires { All (λ place. place < length trail.now.entries) analyzed.now }
     ensures ascending { IfOk result (λ vars. IsStrictlySortedBy nat_cmp vars) }
     ensures members { IfOk result
-        (λ vars. (var : ℕ) → Contains vars var ↔ IsVariableAbove trail.now.entries analyzed.now var) }
+        (λ vars. (var : ℕ)
+        → Contains vars var ↔ IsVariableAbove trail.now.entries analyzed.now var) }
 {
     let mut vars = Vec::new(alloc);
     for place in analyzed {

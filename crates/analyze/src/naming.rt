@@ -65,8 +65,12 @@ pub(crate) fn cite_all(
     requires clauses { All (HasClause arena.now trail.now.entries) places.now }
     requires units { trail.now.vars ≤ length units.now }
     requires tags { trail.now.vars ≤ length tags.now }
-    ensures names { IfOk result (λ cited. cited.names.items ≡ map (name_for arena.now trail.now.entries units.now) places.now) }
-    ensures tag { IfOk result (λ cited. cited.tag ≡ greatest (map (tag_for arena.now trail.now.entries tags.now) places.now)) }
+    ensures names { IfOk result
+        (λ cited. cited.names.items
+        ≡ map (name_for arena.now trail.now.entries units.now) places.now) }
+    ensures tag { IfOk result
+        (λ cited. cited.tag
+        ≡ greatest (map (tag_for arena.now trail.now.entries tags.now) places.now)) }
 {
     let mut names = Vec::new(alloc);
     let mut tag: u32 = 0;

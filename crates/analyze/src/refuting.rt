@@ -1,6 +1,7 @@
 //! The part of the assumptions that is to blame for a false literal.
 
-ghost use Rattle.std.specs.Prelude.{◌≡◌, ℕ, ◌+◌, ◌*◌, ◌<◌, ◌≤◌, ◌↔◌, ◌⊎◌, [], ◌∷◌, map, length, All, Contains, IfOk, IsTrue, None, Option};
+ghost use Rattle.std.specs.Prelude.{◌≡◌, ℕ, ◌+◌, ◌*◌, ◌<◌, ◌≤◌, ◌↔◌, ◌⊎◌, [], ◌∷◌, map, length};
+ghost use Rattle.std.specs.Prelude.{All, Contains, IfOk, IsTrue, None, Option};
 ghost use Rattle.sat_base.specs.Lit.{opposite, variable, IsTautology};
 ghost use Rattle.sat_base.specs.declared.origins.Ref.{Ref};
 ghost use Rattle.trace_core.specs.Known.{Known};
@@ -48,10 +49,14 @@ pub fn refute(
     ensures scratch { scratch.new ≡ scratch.old }
     ensures part { IfOk result (λ answer. IsPart trail.now.entries lit answer.0) }
     ensures negation { IfOk result (λ answer. IsNegationOf answer.0 answer.1.clause) }
-    ensures decided { IfOk result (λ answer. IsDecision trail.now.entries (opposite lit) → IsTautology answer.1.clause × (answer.1.hints ≡ [])) }
+    ensures decided { IfOk result
+        (λ answer. IsDecision trail.now.entries (opposite lit)
+        → IsTautology answer.1.clause × (answer.1.hints ≡ [])) }
 
     // For every table that knows the arena's clauses and the unit clauses of level 0.
-    ensures derived { IfOk result (λ answer. (table : Ref → Option Known) → KnowsArena table arena.now → KnowsUnits table trail.now.entries units.now tags.now
+    ensures derived { IfOk result
+        (λ answer. (table : Ref → Option Known) → KnowsArena table arena.now
+        → KnowsUnits table trail.now.entries units.now tags.now
         → IsRefutedBy table answer.1) }
 {
     let seen = scratch.seen.as_mut_slice();
@@ -90,8 +95,12 @@ fn blame(
     ensures agree { Agree seen.new analyzed.new.items }
     ensures part { IfOk result (λ answer. IsPart trail.now.entries lit answer.0) }
     ensures negation { IfOk result (λ answer. IsNegationOf answer.0 answer.1.clause) }
-    ensures decided { IfOk result (λ answer. IsDecision trail.now.entries (opposite lit) → IsTautology answer.1.clause × (answer.1.hints ≡ [])) }
-    ensures derived { IfOk result (λ answer. (table : Ref → Option Known) → KnowsArena table arena.now → KnowsUnits table trail.now.entries units.now tags.now
+    ensures decided { IfOk result
+        (λ answer. IsDecision trail.now.entries (opposite lit)
+        → IsTautology answer.1.clause × (answer.1.hints ≡ [])) }
+    ensures derived { IfOk result
+        (λ answer. (table : Ref → Option Known) → KnowsArena table arena.now
+        → KnowsUnits table trail.now.entries units.now tags.now
         → IsRefutedBy table answer.1) }
 {
     analyze_clause(seen, analyzed, trail, &[lit])?;
@@ -113,7 +122,8 @@ fn blame(
 // Whether the literal at the place is a decision.
 fn is_decision(trail: &Trail, place: usize) -> bool
     requires { place < length trail.now.entries }
-    ensures { IsTrue result ↔ (0 < level_at trail.now.entries place) × ((entry_at trail.now.entries place).reason ≡ None) }
+    ensures { IsTrue result ↔ (0 < level_at trail.now.entries place)
+        × ((entry_at trail.now.entries place).reason ≡ None) }
 {
     level(trail, place) > 0 && reason(trail, place).is_none()
 }
@@ -134,7 +144,8 @@ fn excluded_middle(alloc: Global, lit: Lit) -> Result<(Cube, Step), AllocError>
 
 // The two literals of the variable, in ascending order.
 fn both_literals(alloc: Global, lit: Lit) -> Result<Vec<Lit>, AllocError>
-    ensures both { IfOk result (λ lits. lits.items ≡ (2 * variable lit) ∷ (2 * variable lit + 1) ∷ []) }
+    ensures both { IfOk result
+        (λ lits. lits.items ≡ (2 * variable lit) ∷ (2 * variable lit + 1) ∷ []) }
     ensures above { 0 < variable lit }
 {
     let _ = lit.var();
@@ -152,7 +163,9 @@ fn both_literals(alloc: Global, lit: Lit) -> Result<Vec<Lit>, AllocError>
 // The cube of a literal and the literals at these places.
 fn part_of(alloc: Global, trail: &Trail, places: &[usize], lit: Lit) -> Result<Cube, AllocError>
     requires { All (λ place. place < length trail.now.entries) places.now }
-    ensures { IfOk result (λ part. (other : ℕ) → Contains part other ↔ Contains (lit ∷ map (lit_at trail.now.entries) places.now) other) }
+    ensures { IfOk result
+        (λ part. (other : ℕ)
+        → Contains part other ↔ Contains (lit ∷ map (lit_at trail.now.entries) places.now) other) }
 {
     let mut lits = Vec::new(alloc);
     lits.push(lit)?;

@@ -1,5 +1,7 @@
 -- The index of a board: readings of the journal.
-use Rattle.std.specs.Prelude.{◌||◌, nat_le, ◌≡◌, ℕ, suc, ◌+◌, ◌-◌, ◌≤◌, Option, None, Some, IsSome, is_some, List, [], ◌∷◌, map, length, filter_map, count_by, All, slice_get, slice_index_or, option_and_then, if◌then◌else◌}
+use Rattle.std.specs.Prelude.{◌||◌, nat_le, ◌≡◌, ℕ, suc, ◌+◌, ◌-◌, ◌≤◌, Option, None, Some, IsSome}
+use Rattle.std.specs.Prelude.{is_some, List, [], ◌∷◌, map, length, filter_map, count_by, All}
+use Rattle.std.specs.Prelude.{slice_get, slice_index_or, option_and_then, if◌then◌else◌}
 use Rattle.std.specs.Arc.{arc_value}
 use Rattle.sat_base.specs.Limits.{most_jobs}
 use Rattle.trace_core.specs.Known.{item_at}
@@ -9,8 +11,10 @@ use Rattle.entry_core.specs.declared.entries.Entry.{Entry}
 use Rattle.entry_core.specs.declared.entries.Event.{Event}
 use Rattle.entry_core.specs.declared.entries.Event.TheVariants as event
 use Rattle.entry_core.specs.declared.rules.Rules.{Rules}
-use Rattle.entry_core.specs.Journal.{segments, jobs, inputs, literals, packets, is_closed, closing_place}
-use Rattle.entry_core.specs.Attempts.{Attempt, attempts, ended, is_open, open_attempts, spent_by, spent_attempts}
+use Rattle.entry_core.specs.Journal.{segments, jobs, inputs, literals, packets, is_closed}
+use Rattle.entry_core.specs.Journal.{closing_place}
+use Rattle.entry_core.specs.Attempts.{Attempt, attempts, ended, is_open, open_attempts, spent_by}
+use Rattle.entry_core.specs.Attempts.{spent_attempts}
 use Rattle.entry_core.specs.Settled.{decisions, starved, settled, settled_jobs}
 use Rattle.board_core.specs.declared.index.Ending.{Ending}
 use Rattle.board_core.specs.declared.index.Ending.TheVariants as ending
@@ -25,7 +29,8 @@ answered_by (event.Decided number given) = Some (verdict.Answered given)
 answered_by _ = None
 
 abbrev pub verdict_in : List Entry → Ending → Option Verdict
-verdict_in journal (ending.Answered place) = option_and_then (λ entry. answered_by entry.event) (slice_get journal place)
+verdict_in journal (ending.Answered place) =
+    option_and_then (λ entry. answered_by entry.event) (slice_get journal place)
 verdict_in journal ending.Cancelled = Some (verdict.Cancelled 0)
 verdict_in journal ending.Spent = Some verdict.Spent
 verdict_in journal ending.Starved = Some verdict.Starved
@@ -72,20 +77,24 @@ abbrev pub ended_at : Index → Index → Index
 ended_at old new =
     record old { jobs = new.jobs; waiting = new.waiting; open_now = old.open_now - 1 }
 
-pub record IsStateOf (rules : Rules) (journal : List Entry) (job : ℕ) (state : JobState) : Type 0 where
+pub record IsStateOf (rules : Rules) (journal : List Entry) (job : ℕ)
+    (state : JobState) : Type 0 where
   pub open_now : state.open_now ≡ open_attempts journal job
   pub spent : state.spent ≡ spent_attempts journal job
   pub ending : IsEndingOf journal state.ending (settled rules journal job)
 
 abbrev pub AreNumberedFrom : ℕ → List Attempt → Type 0
 AreNumberedFrom number [] = Unit {0}
-AreNumberedFrom number (attempt ∷ rest) = (attempt.number ≡ number) × AreNumberedFrom (suc number) rest
+AreNumberedFrom number (attempt ∷ rest) =
+    (attempt.number ≡ number) × AreNumberedFrom (suc number) rest
 
--- Attempts have their places as their numbers, and what is said of an attempt comes after it was begun.
+-- Attempts have their places as their numbers, and what is said of an attempt comes after it was
+-- begun.
 pub record IsOrderly (journal : List Entry) : Type 0 where
   pub numbered : AreNumberedFrom 1 (attempts journal)
   pub ended : All (λ number. number ≤ length (attempts journal)) (ended journal)
-  pub spents : All (λ number. number ≤ length (attempts journal)) (filter_map (λ entry. spent_by entry.event) journal)
+  pub spents : All (λ number. number ≤ length (attempts journal))
+      (filter_map (λ entry. spent_by entry.event) journal)
   pub decided : All (λ decision. decision.number ≤ length (attempts journal)) (decisions journal)
   pub starved : All (λ number. number ≤ length (attempts journal)) (starved journal)
 
@@ -103,9 +112,12 @@ pub record IsIndexOf (rules : Rules) (journal : List Entry) (index : Index) : Ty
   pub settled : index.settled ≡ settled_jobs rules journal
   pub open_now : index.open_now ≡ count_by (is_open journal) (attempts journal)
 
--- the entries that may still come without memory: one for each unsettled job, each open attempt, and the closing
+-- the entries that may still come without memory: one for each unsettled job, each open attempt,
+-- and the closing
 abbrev pub room : Index → ℕ
-room index = (length index.jobs.items - index.settled) + index.open_now + (if is_some index.closed then 0 else 1)
+room index =
+    (length index.jobs.items - index.settled) + index.open_now +
+    (if is_some index.closed then 0 else 1)
 
 -- counts that can be added
 pub record IsCountable (index : Index) : Type 0 where
@@ -113,10 +125,12 @@ pub record IsCountable (index : Index) : Type 0 where
   pub jobs : length index.jobs.items ≤ most_jobs
   pub open_now : index.open_now ≤ 4294967295
 
--- where a job stands among those that wait: it isn't settled, and its open and spent attempts are fewer than it may have
+-- where a job stands among those that wait: it isn't settled, and its open and spent attempts are
+-- fewer than it may have
 abbrev pub rank_of : ℕ → ℕ → JobState → Option Rank
 rank_of most job state =
-    if is_some state.ending || nat_le most (state.open_now + state.spent) then None else Some (record { open_now = state.open_now; job = job })
+    if is_some state.ending || nat_le most (state.open_now + state.spent) then None
+    else Some (record { open_now = state.open_now; job = job })
 
 -- the ranks of the jobs, the first of which has this number
 abbrev pub ranks_from : ℕ → ℕ → List JobState → List (Option Rank)

@@ -7,7 +7,8 @@ use Rattle.entry_core.specs.declared.answers.Verdict.{Verdict}
 use Rattle.entry_core.specs.declared.answers.Verdict.TheVariants as verdict
 use Rattle.entry_core.specs.declared.segments.Segment.{Segment}
 use Rattle.entry_core.specs.Outcomes.{outcome_of}
-use Rattle.entry_core.specs.Journal.{jobs, inputs, literals, segment_literals, packets, is_closed, closing_place}
+use Rattle.entry_core.specs.Journal.{jobs, inputs, literals, segment_literals, packets, is_closed}
+use Rattle.entry_core.specs.Journal.{closing_place}
 use Rattle.entry_core.specs.declared.entries.Event.TheVariants as event
 use Rattle.entry_core.specs.Attempts.{Attempt, attempts, attempt}
 use Rattle.entry_core.specs.Settled.{settled}

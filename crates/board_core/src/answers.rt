@@ -30,7 +30,8 @@ fn answer_at(journal: &[Entry], place: usize) -> &Arc<Answer>
 /// The outcome of a job that was settled like this.
 pub(crate) fn outcome_in(journal: &[Entry], how: Ending) -> Outcome
     requires { IsSome (verdict_in journal.now how) }
-    ensures { (found : Verdict) → verdict_in journal.now how ≡ Some found → result ≡ outcome_of found }
+    ensures { (found : Verdict) → verdict_in journal.now how ≡ Some found
+        → result ≡ outcome_of found }
 {
     match how {
         Ending::Answered(place) => answer_at(journal, place).outcome(),
@@ -43,7 +44,9 @@ pub(crate) fn outcome_in(journal: &[Entry], how: Ending) -> Outcome
 /// The verdict of a job that was settled like this.
 pub(crate) fn verdict_of(journal: &[Entry], how: Ending) -> Result<Verdict, AllocError>
     requires { IsSome (verdict_in journal.now how) }
-    ensures { IfOk result (λ given. (found : Verdict) → verdict_in journal.now how ≡ Some found → IsSame found given) }
+    ensures { IfOk result
+        (λ given. (found : Verdict) → verdict_in journal.now how ≡ Some found
+        → IsSame found given) }
 {
     Ok(match how {
         Ending::Answered(place) => Verdict::Answered(answer_at(journal, place).clone()?),

@@ -11,8 +11,8 @@ use entry_core::{Entry, Rules};
 use std::alloc::{AllocError, Global};
 use std::marker::Model;
 
-/// Jobs, shared packets and verdicts. Contracts see a board as its rules and its journal, which is legal; jobs,
-/// attempts, packets and places in the journal are counted from 1.
+/// Jobs, shared packets and verdicts. Contracts see a board as its rules and its journal, which is
+/// legal; jobs, attempts, packets and places in the journal are counted from 1.
 #[derive(Debug, Drop)]
 pub struct Board {
     pub(crate) rules: Rules,

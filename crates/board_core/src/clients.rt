@@ -16,8 +16,8 @@ use sat_base::limits::{MOST_CLAUSES, MOST_JOBS, MOST_LITERALS};
 use std::sync::Arc;
 
 impl Board {
-    /// Adds a job, and answers its number. The first refusal that stands is answered: a closing, then the
-    /// limits of jobs, clauses and literals, then want of memory.
+    /// Adds a job, and answers its number. The first refusal that stands is answered: a closing,
+    /// then the limits of jobs, clauses and literals, then want of memory.
     pub fn add(&mut self, caller: u32, segment: Arc<Segment>) -> Result<u32, AddFault>
         requires client { IsClient self.old.rules caller }
         ensures ok { OnOk result (self.new ≡ entered self.old caller (event.Added segment)) }
@@ -61,8 +61,8 @@ impl Board {
         Ok(job)
     }
 
-    /// Says that no more jobs come, unless that was said before: then it answers the place of that entry.
-    /// Takes no memory.
+    /// Says that no more jobs come, unless that was said before: then it answers the place of that
+    /// entry. Takes no memory.
     pub fn close_input(&mut self, caller: u32) -> Result<(), u64>
         requires client { IsClient self.old.rules caller }
         ensures ok { OnOk result (self.new ≡ entered self.old caller event.Closed) }

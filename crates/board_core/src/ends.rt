@@ -1,6 +1,7 @@
 //! The calls that end an attempt. None of them takes memory.
 
-ghost use Rattle.std.specs.Prelude.{◌≡◌, None, IsSome, is_some, OnOk, OnErr, IfErr, nat_le, if◌then◌else◌, Some};
+ghost use Rattle.std.specs.Prelude.{◌≡◌, None, IsSome, is_some, OnOk, OnErr, IfErr, nat_le};
+ghost use Rattle.std.specs.Prelude.{if◌then◌else◌, Some};
 ghost use Rattle.std.specs.Arc.{arc_value};
 ghost use Rattle.entry_core.specs.Settled.{settled};
 ghost use Rattle.entry_core.specs.Right.{IsRightAnswer, IsSpentFor};
@@ -20,9 +21,11 @@ impl Board {
     /// Ends an attempt that used up its budget on these clauses.
     pub fn spend(&mut self, caller: u32, attempt: u32, learnt: Arc<Clauses>) -> Result<(), Late>
         requires own { IsOwn self.old caller attempt }
-        requires spent { IsSpentFor self.old.journal (job_at self.old attempt) self.old.rules.conflicts (arc_value learnt) }
+        requires spent { IsSpentFor self.old.journal
+            (job_at self.old attempt) self.old.rules.conflicts (arc_value learnt) }
         ensures ok { OnOk result (self.new ≡ entered self.old caller (event.Spent attempt learnt)) }
-        ensures in_time { OnOk result (settled self.old.rules self.old.journal (job_at self.old attempt) ≡ None) }
+        ensures in_time { OnOk result
+            (settled self.old.rules self.old.journal (job_at self.old attempt) ≡ None) }
         ensures late { IfErr result (λ late. HasOutcome self.old (job_at self.old attempt) late.0) }
         ensures err { OnErr result (self.new ≡ self.old) }
     {
@@ -49,9 +52,12 @@ impl Board {
     /// Ends an attempt with an answer.
     pub fn decide(&mut self, caller: u32, attempt: u32, answer: Arc<Answer>) -> Result<(), Late>
         requires own { IsOwn self.old caller attempt }
-        requires right { IsRightAnswer self.old.journal (job_at self.old attempt) (arc_value answer) }
-        ensures ok { OnOk result (self.new ≡ entered self.old caller (event.Decided attempt answer)) }
-        ensures in_time { OnOk result (settled self.old.rules self.old.journal (job_at self.old attempt) ≡ None) }
+        requires right { IsRightAnswer self.old.journal (job_at self.old attempt)
+            (arc_value answer) }
+        ensures ok { OnOk result
+            (self.new ≡ entered self.old caller (event.Decided attempt answer)) }
+        ensures in_time { OnOk result
+            (settled self.old.rules self.old.journal (job_at self.old attempt) ≡ None) }
         ensures late { IfErr result (λ late. HasOutcome self.old (job_at self.old attempt) late.0) }
         ensures err { OnErr result (self.new ≡ self.old) }
     {
@@ -78,7 +84,8 @@ impl Board {
     pub fn starve(&mut self, caller: u32, attempt: u32) -> Result<(), Late>
         requires own { IsOwn self.old caller attempt }
         ensures ok { OnOk result (self.new ≡ entered self.old caller (event.Starved attempt)) }
-        ensures in_time { OnOk result (settled self.old.rules self.old.journal (job_at self.old attempt) ≡ None) }
+        ensures in_time { OnOk result
+            (settled self.old.rules self.old.journal (job_at self.old attempt) ≡ None) }
         ensures late { IfErr result (λ late. HasOutcome self.old (job_at self.old attempt) late.0) }
         ensures err { OnErr result (self.new ≡ self.old) }
     {
@@ -103,7 +110,8 @@ impl Board {
     /// Ends an attempt whose job is settled.
     pub fn drop_attempt(&mut self, caller: u32, attempt: u32)
         requires own { IsOwn self.old caller attempt }
-        requires settled { IsSome (settled self.old.rules self.old.journal (job_at self.old attempt)) }
+        requires settled { IsSome
+            (settled self.old.rules self.old.journal (job_at self.old attempt)) }
         ensures { self.new ≡ entered self.old caller (event.Dropped attempt) }
     {
         let own = self.index.attempted(attempt);

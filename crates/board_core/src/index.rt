@@ -11,7 +11,8 @@ use entry_core::Segment;
 use std::sync::Arc;
 use trace_core::Packet;
 
-/// How a job was settled. An answer is named by the place of its entry in the journal, counted from 0.
+/// How a job was settled. An answer is named by the place of its entry in the journal, counted from
+/// 0.
 #[derive(Clone, Copy, Debug, PartialEq, Eq)]
 pub(crate) enum Ending {
     Answered(usize),
@@ -20,7 +21,8 @@ pub(crate) enum Ending {
     Starved,
 }
 
-/// Where a job stands: how many attempts at it are open, how many used up their budget, and how it was settled.
+/// Where a job stands: how many attempts at it are open, how many used up their budget, and how it
+/// was settled.
 #[derive(Clone, Copy, Debug, PartialEq, Eq)]
 pub(crate) struct JobState {
     pub(crate) open_now: u32,
@@ -90,15 +92,16 @@ impl Index {
     pub(crate) fn end(&mut self, most: u32, job: u32, state: JobState)
         requires { MayEnd self.old job }
         ensures jobs { self.new.jobs.items ≡ slice_set self.old.jobs.items (job - 1) state }
-        ensures waiting { self.new.waiting ≡ slice_set self.old.waiting (job - 1) (rank_of most job state) }
+        ensures waiting { self.new.waiting
+            ≡ slice_set self.old.waiting (job - 1) (rank_of most job state) }
         ensures rest { self.new ≡ ended_at self.old self.new }
     {
         put(&mut self.jobs, &mut self.waiting, most, job, state);
         self.open_now -= 1;
     }
 
-    /// How many entries may still come without memory: one for each unsettled job, each open attempt, and the
-    /// closing.
+    /// How many entries may still come without memory: one for each unsettled job, each open
+    /// attempt, and the closing.
     pub(crate) fn room(&self) -> usize
         requires { IsCountable self.now }
         ensures { result ≡ room self.now }
@@ -118,7 +121,8 @@ pub(crate) fn state(jobs: &[JobState], job: u32) -> JobState
     jobs[job as usize - 1]
 }
 
-/// Where a job stands among those that wait, if it waits, where a job may have at most so many attempts.
+/// Where a job stands among those that wait, if it waits, where a job may have at most so many
+/// attempts.
 pub(crate) fn rank_of(most: u32, job: u32, state: JobState) -> Option<Rank>
     ensures { result ≡ rank_of most job state }
 {

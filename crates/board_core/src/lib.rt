@@ -1,9 +1,9 @@
-//! The board of the concurrent solver: the jobs of all clients, the clauses that workers share, and the
-//! verdicts, as a state machine without threads.
+//! The board of the concurrent solver: the jobs of all clients, the clauses that workers share, and
+//! the verdicts, as a state machine without threads.
 //!
-//! The layers above see a board as its rules and its journal, which is legal after any list of calls; each
-//! call adds at most one entry, and its answer is what the journal before it says. This crate knows no lock,
-//! no thread and no solver.
+//! The layers above see a board as its rules and its journal, which is legal after any list of
+//! calls; each call adds at most one entry, and its answer is what the journal before it says. This
+//! crate knows no lock, no thread and no solver.
 #![tactic(auto)]
 
 mod answers;

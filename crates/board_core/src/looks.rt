@@ -46,7 +46,8 @@ impl Board {
     /// What was added with a job.
     pub fn segment(&self, job: u32) -> Result<Arc<Segment>, AllocError>
         requires { IsJob self.now job }
-        ensures { IfOk result (λ segment. item_at (segments self.now.journal) job ≡ Some (arc_value segment)) }
+        ensures { IfOk result
+            (λ segment. item_at (segments self.now.journal) job ≡ Some (arc_value segment)) }
     {
         self.index.segments[job as usize - 1].clone()
     }
@@ -54,7 +55,8 @@ impl Board {
     /// The shared packets after the first `from`, in order.
     pub fn fetch(&self, from: u32) -> Result<Vec<Arc<Packet>>, AllocError>
         requires { from ≤ length (packets self.now.journal) }
-        ensures { IfOk result (λ fetched. map arc_value fetched.items ≡ drop from (packets self.now.journal)) }
+        ensures { IfOk result
+            (λ fetched. map arc_value fetched.items ≡ drop from (packets self.now.journal)) }
     {
         copies(self.alloc, &self.index.packets[from as usize..])
     }

@@ -21,8 +21,8 @@ impl Rank {
     }
 }
 
-// Who wins between two that may not have entered: the first of them, where both did and neither goes
-// before the other.
+// Who wins between two that may not have entered: the first of them, where both did and neither
+// goes before the other.
 pub(crate) fn earlier_of(one: Option<Rank>, other: Option<Rank>) -> Option<Rank>
     ensures { result ≡ earlier_of one other }
 {

@@ -1,9 +1,10 @@
 //! A tournament of jobs that wait: each knows its rank, and the first of all is known at once.
 //!
-//! A change takes one match a level of the tree and no memory, which a heap or an ordered set couldn't
-//! promise. An entrant is two numbers, or it doesn't wait.
+//! A change takes one match a level of the tree and no memory, which a heap or an ordered set
+//! couldn't promise. An entrant is two numbers, or it doesn't wait.
 
-ghost use Rattle.std.specs.Prelude.{◌≡◌, ◌<◌, ◌+◌, ◌*◌, ◌/◌, [], ◌∷◌, ◌++◌, length, OnOk, OnErr, None, slice_set};
+ghost use Rattle.std.specs.Prelude.{◌≡◌, ◌<◌, ◌+◌, ◌*◌, ◌/◌, [], ◌∷◌, ◌++◌, length, OnOk, OnErr};
+ghost use Rattle.std.specs.Prelude.{None, slice_set};
 ghost use Rattle.board_core.specs.Rank.{IsFirst, earlier_of};
 ghost use Rattle.board_core.specs.Tree.{standing_at, AreWonBut, IsPlayed};
 
@@ -14,9 +15,10 @@ use std::marker::Model;
 #[cfg(test)]
 mod tests;
 
-/// Entrants in their order, each with its rank or none while it doesn't wait. Contracts see a tournament
-/// as the list of its entrants. Inner node `k` of the tree, counted from 1, has the winner between the
-/// nodes `2k` and `2k + 1`; behind the inner nodes stand the entrants. So an entrant takes 24 to 36 bytes.
+/// Entrants in their order, each with its rank or none while it doesn't wait. Contracts see a
+/// tournament as the list of its entrants. Inner node `k` of the tree, counted from 1, has the
+/// winner between the nodes `2k` and `2k + 1`; behind the inner nodes stand the entrants. So an
+/// entrant takes 24 to 36 bytes.
 #[derive(Debug, Drop)]
 pub(crate) struct Tournament {
     entrants: Vec<Option<Rank>>,
@@ -100,7 +102,10 @@ fn standing_at(entrants: &[Option<Rank>], winners: &[Option<Rank>], node: usize)
 // Plays the match at an inner node.
 fn play(entrants: &[Option<Rank>], winners: &mut [Option<Rank>], node: usize)
     requires inner { node < length winners.old }
-    ensures { winners.new ≡ slice_set winners.old node (earlier_of (standing_at entrants.now winners.old (2 * node)) (standing_at entrants.now winners.old (2 * node + 1))) }
+    ensures { winners.new
+        ≡ slice_set winners.old node
+        (earlier_of (standing_at entrants.now winners.old (2 * node))
+        (standing_at entrants.now winners.old (2 * node + 1))) }
 {
     let left = standing_at(entrants, winners, 2 * node);
     let right = standing_at(entrants, winners, 2 * node + 1);
@@ -133,8 +138,8 @@ fn play_all(entrants: &[Option<Rank>], winners: &mut [Option<Rank>])
     }
 }
 
-// Sees to it that one more entrant has a leaf: doubles the inner nodes where none is left, and plays
-// all matches again.
+// Sees to it that one more entrant has a leaf: doubles the inner nodes where none is left, and
+// plays all matches again.
 fn make_room(entrants: &[Option<Rank>], winners: &mut Vec<Option<Rank>>) -> Result<(), AllocError>
     requires { IsPlayed entrants.now winners.old.items }
     ensures played { IsPlayed entrants.now winners.new.items }

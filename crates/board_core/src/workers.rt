@@ -20,8 +20,8 @@ use std::sync::Arc;
 use trace_core::Packet;
 
 impl Board {
-    /// Begins the next attempt, at the job of the scheduling rule, or says that there is none to take.
-    /// As many attempts as there are numbers of 32 bits are answered as want of memory.
+    /// Begins the next attempt, at the job of the scheduling rule, or says that there is none to
+    /// take. As many attempts as there are numbers of 32 bits are answered as want of memory.
     pub fn take(&mut self, caller: u32) -> Result<Task, AllocError>
         requires worker { IsWorker self.old.rules caller }
         ensures task { IfOk result (IsTask self.old self.new caller) }

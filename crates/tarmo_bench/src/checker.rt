@@ -1,8 +1,8 @@
 //! Checks a long trace.
 //!
-//! The inputs are implications from each variable to the next one. Each step has ten of them as hints and
-//! derives that a variable implies the tenth after it. The steps jump over the inputs, so that the
-//! checker's memory is read out of order.
+//! The inputs are implications from each variable to the next one. Each step has ten of them as
+//! hints and derives that a variable implies the tenth after it. The steps jump over the inputs, so
+//! that the checker's memory is read out of order.
 
 mod long_trace;
 

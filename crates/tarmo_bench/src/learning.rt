@@ -1,7 +1,8 @@
 //! Learns from the same conflict over and over.
 //!
-//! The text is three pigeons in two holes, and a clause of one literal for each further variable, so that
-//! the trail is as long as the text has variables. The time of a call must not grow with it.
+//! The text is three pigeons in two holes, and a clause of one literal for each further variable,
+//! so that the trail is as long as the text has variables. The time of a call must not grow with
+//! it.
 
 mod instance;
 mod search;

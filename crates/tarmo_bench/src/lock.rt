@@ -1,5 +1,5 @@
-//! How long a hold of `turn_lock` takes beside one of std's `Mutex`, where each hold adds an entry to a
-//! log.
+//! How long a hold of `turn_lock` takes beside one of std's `Mutex`, where each hold adds an entry
+//! to a log.
 
 mod holds;
 mod log;

@@ -1,8 +1,8 @@
 //! Measures a part of Tarmo: `tarmo_bench MEASURE [SIZES]`.
 //!
-//! The first word says what is measured, and the others how much. With sizes a measure tells the time that
-//! it took; without, it does a little and tells only what came out. Without words, or with others, the
-//! program says which words there are.
+//! The first word says what is measured, and the others how much. With sizes a measure tells the
+//! time that it took; without, it does a little and tells only what came out. Without words, or
+//! with others, the program says which words there are.
 #![tactic(auto)]
 
 mod board;

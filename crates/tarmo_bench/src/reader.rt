@@ -1,5 +1,5 @@
-//! Reads an iCNF text from standard input, and prints how many clauses, cubes and literals it has and
-//! whether it is accepted: the reader alone, to be timed from outside.
+//! Reads an iCNF text from standard input, and prints how many clauses, cubes and literals it has
+//! and whether it is accepted: the reader alone, to be timed from outside.
 
 use anyhow::Result;
 use icnf_text::{Fed, Reader, Statement};

@@ -1,8 +1,8 @@
 //! Trims and prints a long derivation.
 //!
-//! The inputs are a variable and implications from each variable to the next one. The i-th own step derives
-//! the variable behind the i-th from the step before it and an implication, so the last one rests on all
-//! of them.
+//! The inputs are a variable and implications from each variable to the next one. The i-th own step
+//! derives the variable behind the i-th from the step before it and an implication, so the last one
+//! rests on all of them.
 
 mod chain;
 

@@ -1,5 +1,6 @@
 -- One attempt of a worker, and what is left to do after it.
-use Rattle.std.specs.Prelude.{◌≡◌, ◌⊎◌, ℕ, zero, suc, ◌+◌, ◌-◌, ◌<◌, ◌≤◌, Option, None, Some, IsSome, is_some, if◌then◌else◌, List, []}
+use Rattle.std.specs.Prelude.{◌≡◌, ◌⊎◌, ℕ, zero, suc, ◌+◌, ◌-◌, ◌<◌, ◌≤◌, Option, None, Some}
+use Rattle.std.specs.Prelude.{IsSome, is_some, if◌then◌else◌, List, []}
 use Rattle.entry_core.specs.declared.entries.Entry.{Entry}
 use Rattle.entry_core.specs.declared.entries.Event.{Event}
 use Rattle.entry_core.specs.declared.entries.Event.TheVariants as event
@@ -28,7 +29,8 @@ pub record IsAt (board : State) (caller number job : ℕ) : Type 0 where
 abbrev pub EndsBy : State → State → ℕ → ℕ → Event → Type 0
 EndsBy old new caller number happened =
     (new ≡ entered old caller happened)
-    ⊎ (IsSome (settled old.rules old.journal (job_at old number)) × (new ≡ entered old caller (event.Dropped number)))
+    ⊎ (IsSome (settled old.rules old.journal (job_at old number))
+    × (new ≡ entered old caller (event.Dropped number)))
 
 -- The attempt ended, and its job is settled now or has one spent attempt more.
 pub record HasEnded (old new : State) (caller number job : ℕ) : Type 0 where

@@ -44,8 +44,10 @@ KnowsRead bench = (place : ℕ) (packet : List Step) → item_at (read_by bench)
 -- The own steps of these numbers were learnt: their clauses are held, and keep, in order, all
 -- rules of a spent list but the one on its number.
 pub record AreLearnt (solver : Solver) (cube : List ℕ) (numbers : List ℕ) : Type 0 where
-  pub held : All (λ number. (one : Known) × IsStep solver.steps number one × Contains solver.held one) numbers
-  pub rules : IsSpent (clauses_of solver.inputs) (variables (clauses_of solver.inputs) cube) (length numbers)
+  pub held : All
+      (λ number. (one : Known) × IsStep solver.steps number one × Contains solver.held one) numbers
+  pub rules : IsSpent (clauses_of solver.inputs) (variables (clauses_of solver.inputs) cube)
+      (length numbers)
       (clauses_at solver.steps numbers)
 
 -- The session is at the attempt's job, with its cube, knows the packets that were read, and has

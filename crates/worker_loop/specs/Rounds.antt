@@ -21,7 +21,8 @@ IsRightRound solver cube Paused = Unit {0}
 
 -- One round of at most 256 learnt clauses, and never more than the budget leaves. The attempt
 -- lists the own steps of exactly those besides, and nothing else of it changed.
-pub record MakesRound (old new : Solver) (before after : Attempt) (budget : ℕ) (round : Round) : Type 0 where
+pub record MakesRound (old new : Solver) (before after : Attempt) (budget : ℕ)
+    (round : Round) : Type 0 where
   pub solves : Solves old new before.cube (min 256 (budget - length before.learnt.items)) round
   pub same : after ≡ record before { learnt = after.learnt }
   pub listed : after.learnt.items ≡ before.learnt.items ++ solves.learns.names

@@ -33,9 +33,12 @@ pub(crate) fn pursue(
     requires fits { FitsLegal bench.old }
     requires learnt { AreLearnt bench.old.session.solver attempt.old.cube attempt.old.learnt.items }
     ensures end { IfOk result (IsEndOver bench.old.session.solver.inputs attempt.old.cube budget) }
-    ensures learnt { OnOk result (HasLearntOn bench.old.session.solver bench.new.session.solver attempt.old attempt.new budget) }
+    ensures learnt { OnOk result (HasLearntOn
+        bench.old.session.solver bench.new.session.solver attempt.old attempt.new budget) }
     ensures spent { IfOk result (IsOfLearnt bench.new.session.solver attempt.new) }
-    ensures fits { OnOk result ((journal : List Entry) → FitsAttempt bench.old attempt.old journal → FitsAttempt bench.new attempt.new journal) }
+    ensures fits { OnOk result
+        ((journal : List Entry) → FitsAttempt bench.old attempt.old journal
+        → FitsAttempt bench.new attempt.new journal) }
     ensures keeps { Keeps bench.old.session.solver bench.new.session.solver }
     ensures bench { bench.new ≡ record bench.old { session = bench.new.session } }
 {
@@ -61,8 +64,10 @@ pub(crate) fn end_of(
     requires learnt { AreLearnt bench.now.session.solver attempt.now.cube attempt.now.learnt.items }
     requires few { length attempt.now.learnt.items ≤ budget }
     requires right { IsRightRound bench.now.session.solver attempt.now.cube round }
-    ensures end { IfOk result (λ end. IfSome end (IsEndOver bench.now.session.solver.inputs attempt.now.cube budget)) }
-    ensures learnt { IfOk result (λ end. IfSome end (IsOfLearnt bench.now.session.solver attempt.now)) }
+    ensures end { IfOk result
+        (λ end. IfSome end (IsEndOver bench.now.session.solver.inputs attempt.now.cube budget)) }
+    ensures learnt { IfOk result
+        (λ end. IfSome end (IsOfLearnt bench.now.session.solver attempt.now)) }
     ensures goes_on { IfOk result (λ end. end ≡ None → length attempt.now.learnt.items < budget) }
     ensures paused { IfOk result (λ end. end ≡ None → round ≡ Paused) }
 {
@@ -89,8 +94,10 @@ fn spent(
 ) -> Result<Option<End>, AllocError>
     requires learnt { AreLearnt bench.now.session.solver attempt.now.cube attempt.now.learnt.items }
     requires few { length attempt.now.learnt.items ≤ budget }
-    ensures end { IfOk result (λ end. IfSome end (IsEndOver bench.now.session.solver.inputs attempt.now.cube budget)) }
-    ensures learnt { IfOk result (λ end. IfSome end (IsOfLearnt bench.now.session.solver attempt.now)) }
+    ensures end { IfOk result
+        (λ end. IfSome end (IsEndOver bench.now.session.solver.inputs attempt.now.cube budget)) }
+    ensures learnt { IfOk result
+        (λ end. IfSome end (IsOfLearnt bench.now.session.solver attempt.now)) }
     ensures goes_on { IfOk result (λ end. end ≡ None → length attempt.now.learnt.items < budget) }
 {
     if (attempt.learnt.len() as u64) < budget {
@@ -111,7 +118,8 @@ fn traced(
     number: u64,
 ) -> Result<Answer, AllocError>
     requires fits { FitsLegal bench.now }
-    requires refuted { IsRefutation bench.now.session.solver.inputs bench.now.session.solver.steps cube.now part number }
+    requires refuted { IsRefutation bench.now.session.solver.inputs
+        bench.now.session.solver.steps cube.now part number }
     ensures { IfOk result (IsRightOver bench.now.session.solver.inputs cube.now) }
 {
     let steps = trim(alloc, &bench.packets, bench.session.steps(), number)?;

@@ -55,7 +55,8 @@ fn pursue_job(
     ensures fits { OnOk result (Fits bench.new board.now.journal) }
     ensures bound { OnOk result (bench.new.session.solver.bound ≡ job) }
     ensures end { IfOk result (IsEnd board.now.journal job board.now.rules.conflicts) }
-    ensures kept { bench.old.session.solver.bound ≤ job → KeepsLearnt bench.old.session.solver bench.new.session.solver }
+    ensures kept { bench.old.session.solver.bound ≤ job
+        → KeepsLearnt bench.old.session.solver bench.new.session.solver }
 {
     bring_to(alloc, board, bench, job)?;
     let segment = board.segment(job)?;
@@ -76,7 +77,8 @@ fn pursue_job(
 /// memory.
 pub(crate) fn end_attempt(board: &mut Board, caller: u32, number: u32, end: Option<End>)
     requires own { IsOwn board.old caller number }
-    requires right { IfSome end (IsEnd board.old.journal (job_at board.old number) board.old.rules.conflicts) }
+    requires right { IfSome end
+        (IsEnd board.old.journal (job_at board.old number) board.old.rules.conflicts) }
     ensures { EndsBy board.old board.new caller number (event_of number end) }
 {
     if write_end(board, caller, number, end).is_err() {
@@ -87,9 +89,11 @@ pub(crate) fn end_attempt(board: &mut Board, caller: u32, number: u32, end: Opti
 // Writes the end down, unless the job is settled: then the board is as before.
 fn write_end(board: &mut Board, caller: u32, number: u32, end: Option<End>) -> Result<(), Late>
     requires own { IsOwn board.old caller number }
-    requires right { IfSome end (IsEnd board.old.journal (job_at board.old number) board.old.rules.conflicts) }
+    requires right { IfSome end
+        (IsEnd board.old.journal (job_at board.old number) board.old.rules.conflicts) }
     ensures ok { OnOk result (board.new ≡ entered board.old caller (event_of number end)) }
-    ensures late { OnErr result (IsSome (settled board.old.rules board.old.journal (job_at board.old number))) }
+    ensures late { OnErr result
+        (IsSome (settled board.old.rules board.old.journal (job_at board.old number))) }
     ensures err { OnErr result (board.new ≡ board.old) }
 {
     match end {

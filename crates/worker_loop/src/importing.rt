@@ -35,7 +35,8 @@ fn import_one(bench: &mut Bench, place: u32) -> Result<(), AllocError>
     requires only { KnowsOnlyRead bench.old }
     requires takable { AreTakable bench.old }
     ensures imported { HasImported bench.old bench.new }
-    ensures known { OnOk result (KnowsReadUpTo bench.old (place - 1) → KnowsReadUpTo bench.new place) }
+    ensures known { OnOk result
+        (KnowsReadUpTo bench.old (place - 1) → KnowsReadUpTo bench.new place) }
 {
     if bench.session.knows(place) {
         return Ok(());

@@ -28,7 +28,8 @@ pub(crate) fn bring_to(
     ensures fits { OnOk result (Fits bench.new board.now.journal) }
     ensures bound { OnOk result (bench.new.session.solver.bound ≡ job) }
     ensures known { OnOk result (KnowsRead bench.new) }
-    ensures kept { bench.old.session.solver.bound ≤ job → KeepsLearnt bench.old.session.solver bench.new.session.solver }
+    ensures kept { bench.old.session.solver.bound ≤ job
+        → KeepsLearnt bench.old.session.solver bench.new.session.solver }
 {
     begin_anew_past(alloc, bench, job);
     load_up_to(board, bench, job)?;
@@ -42,7 +43,8 @@ pub(crate) fn bring_to(
 fn begin_anew_past(alloc: Global, bench: &mut Bench, job: u32)
     ensures fits { (journal : List Entry) → Fits bench.old journal → Fits bench.new journal }
     ensures up_to { bench.new.session.solver.bound ≤ job }
-    ensures kept { bench.old.session.solver.bound ≤ job → KeepsLearnt bench.old.session.solver bench.new.session.solver }
+    ensures kept { bench.old.session.solver.bound ≤ job
+        → KeepsLearnt bench.old.session.solver bench.new.session.solver }
 {
     if bench.session.bound() > job {
         bench.session = Session::new(alloc, 0);
@@ -70,10 +72,15 @@ fn load_up_to(board: &Board, bench: &mut Bench, job: u32) -> Result<(), AllocErr
 /// Loads what was added with the job behind the one that is loaded. After want of memory the
 /// bench is as before.
 fn load_next(bench: &mut Bench, segment: &Segment) -> Result<(), AllocError>
-    requires clauses { length bench.old.session.solver.inputs + length segment.now.clauses ≤ 16777216 }
+    requires clauses { length bench.old.session.solver.inputs + length segment.now.clauses
+        ≤ 16777216 }
     requires jobs { bench.old.session.solver.bound < 1048576 }
-    ensures fits { OnOk result ((journal : List Entry) → Fits bench.old journal → item_at (segments journal) (bench.old.session.solver.bound + 1) ≡ Some segment.now → Fits bench.new journal) }
-    ensures bound { OnOk result (bench.new.session.solver.bound ≡ bench.old.session.solver.bound + 1) }
+    ensures fits { OnOk result
+        ((journal : List Entry) → Fits bench.old journal
+        → item_at (segments journal) (bench.old.session.solver.bound + 1) ≡ Some segment.now
+        → Fits bench.new journal) }
+    ensures bound { OnOk result
+        (bench.new.session.solver.bound ≡ bench.old.session.solver.bound + 1) }
     ensures kept { KeepsLearnt bench.old.session.solver bench.new.session.solver }
     ensures err { OnErr result (bench.new ≡ bench.old) }
 {

@@ -24,8 +24,11 @@ pub(crate) fn make_round(
     budget: u64,
 ) -> Result<Round, AllocError>
     requires left { length attempt.old.learnt.items < budget }
-    ensures round { IfOk result (MakesRound bench.old.session.solver bench.new.session.solver attempt.old attempt.new budget) }
-    ensures learnt { OnOk result (AreLearnt bench.old.session.solver attempt.old.cube attempt.old.learnt.items → AreLearnt bench.new.session.solver attempt.new.cube attempt.new.learnt.items) }
+    ensures round { IfOk result (MakesRound
+        bench.old.session.solver bench.new.session.solver attempt.old attempt.new budget) }
+    ensures learnt { OnOk result
+        (AreLearnt bench.old.session.solver attempt.old.cube attempt.old.learnt.items
+        → AreLearnt bench.new.session.solver attempt.new.cube attempt.new.learnt.items) }
     ensures keeps { Keeps bench.old.session.solver bench.new.session.solver }
     ensures bench { bench.new ≡ record bench.old { session = bench.new.session } }
 {
@@ -42,8 +45,11 @@ pub(crate) fn make_round(
 /// Lists the own steps that the session learnt behind the first `before`, in order.
 fn list_learnt(session: &Session, before: usize, learnt: &mut Vec<u64>) -> Result<(), AllocError>
     requires { before ≤ length session.now.solver.learnt }
-    ensures listed { OnOk result (learnt.new.items ≡ learnt.old.items ++ drop before session.now.solver.learnt) }
-    ensures literals { OnOk result (All AreLiterals (clauses_at session.now.solver.steps (drop before session.now.solver.learnt))) }
+    ensures listed { OnOk result
+        (learnt.new.items ≡ learnt.old.items ++ drop before session.now.solver.learnt) }
+    ensures literals { OnOk result
+        (All AreLiterals
+        (clauses_at session.now.solver.steps (drop before session.now.solver.learnt))) }
 {
     let steps = session.steps();
     let numbers = &session.learnt()[before..];

@@ -31,9 +31,12 @@ pub fn work_alone(
     ensures fits { Fits bench.new board.new.journal }
     ensures idle { OnOk result ((job : ℕ) → ¬ IsWaiting board.new.rules board.new.journal job) }
     // With one worker, nothing that was learnt is lost, unless an attempt was given up.
-    ensures kept { board.old.rules.workers ≡ 1 → IsBeforeWaiting bench.old board.old → KeepsOn board.old board.new bench.old bench.new }
+    ensures kept { board.old.rules.workers ≡ 1 → IsBeforeWaiting bench.old board.old
+        → KeepsOn board.old board.new bench.old bench.new }
     // With one worker, nothing is left to do.
-    ensures settled { OnOk result (board.old.rules.workers ≡ 1 → (job : ℕ) → IsJob board.new job → IsSome (settled board.new.rules board.new.journal job)) }
+    ensures settled { OnOk result
+        (board.old.rules.workers ≡ 1 → (job : ℕ) → IsJob board.new job
+        → IsSome (settled board.new.rules board.new.journal job)) }
 {
     'attempts: while work_once(alloc, board, caller, bench)? {}
     // What every board keeps is told with its rules and its journal.
@@ -56,9 +59,11 @@ fn work_once(
     ensures resting { IsResting board.new caller }
     ensures fits { Fits bench.new board.new.journal }
     // With one worker, nothing that was learnt is lost, unless an attempt was given up.
-    ensures kept { board.old.rules.workers ≡ 1 → IsBeforeWaiting bench.old board.old → KeepsOn board.old board.new bench.old bench.new }
+    ensures kept { board.old.rules.workers ≡ 1 → IsBeforeWaiting bench.old board.old
+        → KeepsOn board.old board.new bench.old bench.new }
     ensures fewer { IfOk result (λ made. IsTrue made → left_on board.new < left_on board.old) }
-    ensures idle { IfOk result (λ made. made ≡ false → (job : ℕ) → ¬ IsWaiting board.new.rules board.new.journal job) }
+    ensures idle { IfOk result
+        (λ made. made ≡ false → (job : ℕ) → ¬ IsWaiting board.new.rules board.new.journal job) }
 {
     // In a legal journal a worker that rests has no open attempt.
     let _ = board.journal();

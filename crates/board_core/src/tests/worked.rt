@@ -1,5 +1,5 @@
-//! A board with one worked job: what it tells of it, shared packets, a spent attempt, and attempts that
-//! come late.
+//! A board with one worked job: what it tells of it, shared packets, a spent attempt, and attempts
+//! that come late.
 
 ghost use Rattle.std.specs.Prelude.{◌≡◌, true, false, [], ◌∷◌, IfOk};
 ghost use Rattle.std.specs.Arc.{arc_value};

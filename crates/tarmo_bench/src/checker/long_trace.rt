@@ -27,8 +27,8 @@ fn implication(alloc: Global, first: u32, second: u32) -> Result<Clause, AllocEr
     Clause::from_lits(alloc, &lits)
 }
 
-/// Adds the implications from variable 1 to 2, from 2 to 3 and so on, as many as there are steps and ten
-/// more.
+/// Adds the implications from variable 1 to 2, from 2 to 3 and so on, as many as there are steps
+/// and ten more.
 pub fn add_inputs(alloc: Global, checker: &mut Checker, count: u32) -> Result<(), AllocError>
     requires few { count ≤ MOST }
     requires inputs { checker.old.inputs ≡ [] }

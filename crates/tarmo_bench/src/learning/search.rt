@@ -24,7 +24,8 @@ pub fn begin(store: &mut Store, trail: &mut Trail) -> bool
     propagate(store, trail).is_none()
 }
 
-// Decides an unassigned literal on a new level, and propagates. The answer is the number of a false clause.
+// Decides an unassigned literal on a new level, and propagates. The answer is the number of a false
+// clause.
 fn decide(store: &mut Store, trail: &mut Trail, lit: Lit) -> Option<usize>
     requires vars { store.old.vars ≡ trail.old.vars }
     requires ready { IsReady store.old.clauses trail.old }
@@ -44,8 +45,8 @@ fn decide(store: &mut Store, trail: &mut Trail, lit: Lit) -> Option<usize>
     propagate(store, trail)
 }
 
-/// Decides the literals in turn, passing over those that are assigned or whose variables aren't reserved,
-/// until a clause is false: then the answer is its number.
+/// Decides the literals in turn, passing over those that are assigned or whose variables aren't
+/// reserved, until a clause is false: then the answer is its number.
 pub fn search(store: &mut Store, trail: &mut Trail, vars: u32, decisions: &[Lit]) -> Option<usize>
     requires reserved { trail.old.vars ≡ vars }
     requires vars { store.old.vars ≡ trail.old.vars }

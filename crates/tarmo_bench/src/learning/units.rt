@@ -7,8 +7,8 @@ use sat_base::{Lit, Ref};
 use std::alloc::{AllocError, Global};
 use trail_core::Trail;
 
-/// For each variable of level 0 the name of the clause of its true literal, and its tag. A literal that
-/// a longer clause forced has an own step; these are numbered in the order of the trail.
+/// For each variable of level 0 the name of the clause of its true literal, and its tag. A literal
+/// that a longer clause forced has an own step; these are numbered in the order of the trail.
 #[derive(Debug, Drop)]
 pub struct Units {
     pub names: Vec<Ref>,

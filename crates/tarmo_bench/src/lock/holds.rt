@@ -39,7 +39,10 @@ fn all_hold_often<R: Threads + Wait + Sync>(
     times: u64,
 )
     requires { All (λ pass. IsOf lock.now pass × (pass.idle ≡ true)) passes.old }
-    ensures { (k : ℕ) (d : PassView (ℕ × ℕ) ℕ) → k < length passes.old → IsOf lock.now (slice_index_or passes.new k d) × ((slice_index_or passes.new k d).idle ≡ true) × ((slice_index_or passes.new k d).number ≡ (slice_index_or passes.old k d).number) }
+    ensures { (k : ℕ) (d : PassView (ℕ × ℕ) ℕ) → k < length passes.old
+        → IsOf lock.now (slice_index_or passes.new k d)
+        × ((slice_index_or passes.new k d).idle ≡ true)
+        × ((slice_index_or passes.new k d).number ≡ (slice_index_or passes.old k d).number) }
 {
     thread::for_each_mut(
         rt,
@@ -47,7 +50,8 @@ fn all_hold_often<R: Threads + Wait + Sync>(
         80,
         &|_: usize, pass: &mut Pass<Log>|
             requires { IsOf lock.now pass.old × (pass.old.idle ≡ true) }
-            ensures { IsOf lock.entry.now pass.new × (pass.new.idle ≡ true) × (pass.new.number ≡ pass.old.number) }
+            ensures { IsOf lock.entry.now pass.new × (pass.new.idle ≡ true)
+                × (pass.new.number ≡ pass.old.number) }
         { hold_often(rt, lock, pass, times) },
     );
 }

@@ -29,7 +29,8 @@ impl Kept for Log {
         self.items.len() as u64
     }
 
-    ghost counts_up = { λ x y more same longer. Prim.omega (arith, ap length longer, length-append x.items.items more) };
+    ghost counts_up = { λ x y more same longer. Prim.omega
+        (arith, ap length longer, length-append x.items.items more) };
 }
 
 impl Log {

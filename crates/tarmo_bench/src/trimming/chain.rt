@@ -1,6 +1,7 @@
 //! A derivation in which each step rests on the one before.
 
-ghost use Rattle.std.specs.Prelude.{◌≡◌, ◌+◌, ◌^◌, ◌<◌, ◌≤◌, List, ℕ, [], IsTrue, IfOk, IsSome, All, length};
+ghost use Rattle.std.specs.Prelude.{◌≡◌, ◌+◌, ◌^◌, ◌<◌, ◌≤◌, List, ℕ, [], IsTrue, IfOk, IsSome};
+ghost use Rattle.std.specs.Prelude.{All, length};
 ghost use Rattle.trace_core.specs.Known.{item_at};
 ghost use Rattle.trace_core.specs.declared.derivation.Step.{Step};
 ghost use Rattle.trace_trim.specs.Names.{CiteEarlierSteps};

@@ -28,7 +28,8 @@ fn a_long_text_is_read_in_pieces_of_65536_bytes(rt: HostRuntime) -> Result<(), F
     Ok(())
 }
 
-// Behind the start the text comes in three reads, the first of which ends job 1, and a fourth finds its end.
+// Behind the start the text comes in three reads, the first of which ends job 1, and a fourth finds
+// its end.
 #[test]
 fn a_failing_source_leaves_the_blocks_of_the_jobs_before(rt: HostRuntime) -> Result<(), Fail> {
     let one = "j 1 SATISFIABLE\nv 1 0\nfault read\n";

@@ -48,7 +48,8 @@ fn refuted_parts_have_traces(rt: HostRuntime) -> Result<(), Fail> {
     Ok(())
 }
 
-// The trace may have steps before its last one, and ends in the clause of the part's negated literals.
+// The trace may have steps before its last one, and ends in the clause of the part's negated
+// literals.
 #[test]
 fn a_trace_goes_on_behind_the_clauses(rt: HostRuntime) -> Result<(), Fail> {
     let run = run_with_traces(rt.alloc(), "p inccnf\n1 0\n-1 2 0\na -2 0\n")?;

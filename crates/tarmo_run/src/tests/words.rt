@@ -7,8 +7,8 @@ use std::alloc::{AllocError, Global};
 use std::process::Abort;
 use std::test::Fail;
 
-// Words that are accepted: whether the run shows traces, how many clauses an attempt may learn, and how many attempts a
-// job has.
+// Words that are accepted: whether the run shows traces, how many clauses an attempt may learn, and
+// how many attempts a job has.
 const ACCEPTED: &[(&str, bool, u64, u32)] = &[
     ("", false, 18_446_744_073_709_551_615, 1),
     ("--trace", true, 18_446_744_073_709_551_615, 1),
@@ -74,7 +74,8 @@ fn accepted_words_are_the_rules_of_the_board(rt: HostRuntime) -> Result<(), Fail
     Ok(())
 }
 
-// These words are refused, and nothing is read or written: the same source then gives its whole text.
+// These words are refused, and nothing is read or written: the same source then gives its whole
+// text.
 fn assert_refused(alloc: Global, rt: &impl Abort, line: &str) -> Result<(), AllocError> {
     let words = words_of(alloc, line)?;
     let bytes = TWO_JOBS.as_bytes().to_vec(alloc)?;
