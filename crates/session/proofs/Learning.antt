@@ -12,8 +12,8 @@ use Rattle.analyze.specs.Learnt.{IsNew}
 use Rattle.session.specs.Solver.{held_of, known_clause, IsStep}
 use Rattle.session.specs.Fronts.{IsFront}
 use Rattle.session.specs.Rounds.{ContainsNone, AreNamed}
-use Rattle.session.proofs.Lists.{item_at-more}
-use Rattle.session.proofs.InOrder.{in_order-has}
+use Rattle.trace_core.proofs.Items.{item_at-append}
+use Rattle.sat_base.proofs.InOrder.{in_order-has}
 
 -- named steps stay where more come
 step_stays : (old new : List Step) (number : ℕ) (one : Known) → IsFront old new
@@ -21,7 +21,7 @@ step_stays : (old new : List Step) (number : ℕ) (one : Known) → IsFront old 
 step_stays old new number one front is =
     subst (λ (steps : List Step). IsStep steps number one) (sym front.is)
     (subst (λ knowns. item_at knowns number ≡ Some one) (sym (map-append known_of old front.more))
-    (item_at-more (map known_of old) (map known_of front.more) number one is))
+    (item_at-append (map known_of old) (map known_of front.more) number one is))
 
 pub named_stay : (old new : List Step) (numbers : List ℕ) (more : List Known) → IsFront old new
     → AreNamed old numbers more → AreNamed new numbers more

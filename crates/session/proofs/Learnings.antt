@@ -29,14 +29,15 @@ use Rattle.analyze.specs.Learnt.{IsAsserting, IsNew, IsLearntBy}
 use Rattle.session.specs.declared.search.Search.{Search}
 use Rattle.session.specs.Solver.{inputs_of, held_of, named_by, IsStep, known_clause, clauses_of}
 use Rattle.session.specs.Stock.{IsStocked}
-use Rattle.session.proofs.InOrder.{in_order-itself}
+use Rattle.sat_base.proofs.InOrder.{in_order-itself}
 use Rattle.session.specs.OnTrail.{IsOnTrail}
 use Rattle.session.specs.Units.{IsNamed}
 use Rattle.session.specs.Searching.{IsSearching, packets_of, solver_of, table_of}
 use Rattle.session.specs.declared.conflicts.Lesson.{Lesson}
 use Rattle.session.specs.Lessons.{IsLesson}
 use Rattle.session.specs.Solving.{IsProperOver, LearnsOne}
-use Rattle.session.proofs.Lists.{All-push, All-under, item_at-last}
+use Rattle.session.proofs.Lists.{All-push, All-under}
+use Rattle.trace_core.proofs.Items.{item_at-last}
 use Rattle.session.proofs.UpTo.{below_greatest, greatest_within}
 use Rattle.session.proofs.Stocked.{stock_learnt, inputs_learnt}
 use Rattle.session.proofs.Fronts.{level_at, IsFront, Ascends, front_of, up_to_is, up_to_take}

@@ -8,7 +8,7 @@ use Rattle.trace_core.specs.Trace.{known_of}
 use Rattle.trace_core.specs.declared.derivation.Step.{Step}
 use Rattle.trace_trim.proofs.Found.{item_at-next}
 use Rattle.session.specs.Solver.{Solver, IsSound, IsStep}
-use Rattle.session.proofs.Lists.{item_at-map}
+use Rattle.trace_core.proofs.Items.{item_at-map}
 use Rattle.session.proofs.Renamed.{is_among}
 
 -- the step of that number, as it is read

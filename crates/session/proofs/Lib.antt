@@ -1,4 +1,3 @@
-pub mod InOrder
 pub mod Lists
 pub mod Proper
 pub mod UpTo

@@ -18,7 +18,7 @@ use Rattle.session.specs.Units.{IsNamed}
 use Rattle.session.specs.Searching.{IsSearching, packets_of, solver_of}
 use Rattle.session.specs.Loading.{HasInputsOnly, HasInputsMore, loaded, tagged}
 use Rattle.session.proofs.Lists.{All-under}
-use Rattle.session.proofs.InOrder.{in_order-itself}
+use Rattle.sat_base.proofs.InOrder.{in_order-itself}
 use Rattle.session.proofs.Reserved.{greatest_all_push, inputs_more}
 
 -- the greatest variable, clause by clause

@@ -18,12 +18,13 @@ use Rattle.trail_core.specs.UnderTrail.{IsComplete}
 use Rattle.trail_core.proofs.Levels.{up_to_all}
 use Rattle.propagate.specs.Store.{AreWithin}
 use Rattle.session.specs.declared.search.Search.{Search}
-use Rattle.session.specs.Solver.{inputs_of, clauses_of, known_clause, in_order, is_input}
+use Rattle.session.specs.Solver.{inputs_of, clauses_of, known_clause, is_input}
+use Rattle.sat_base.specs.Lit.{in_order}
 use Rattle.session.specs.Moves.{IsWhole}
 use Rattle.session.specs.Models.{IsAssignmentOf}
 use Rattle.session.specs.Searching.{IsSearching}
-use Rattle.session.proofs.Lists.{Contains-from_filter}
-use Rattle.session.proofs.InOrder.{in_order-has}
+use Rattle.trace_core.proofs.Items.{Contains-from_filter}
+use Rattle.sat_base.proofs.InOrder.{in_order-has}
 use Rattle.session.proofs.UpTo.{below_greatest}
 
 -- membership is decided
@@ -120,4 +121,4 @@ model_of s cube vars values kept set vars_are complete whole given = record {
         subst (λ xs. IsTrue (clause_true values xs))
         (ap (λ (one : Known). one.clause) clause_is ∙ is)
         (clause_holds clause (Contains-from_filter
-        (λ (c : ArenaClause). is_input c.origin) s.store.clauses clause clause_in))
+        (λ (c : ArenaClause). is_input c.origin) s.store.clauses clause clause_in).0)

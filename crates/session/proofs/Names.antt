@@ -21,7 +21,7 @@ use Rattle.trace_trim.proofs.Zips.{slice_get-place}
 use Rattle.session.specs.Solver.{Solver, shared_by, known_in, packet_at}
 use Rattle.session.specs.Fronts.{IsFront}
 use Rattle.session.specs.Sharing.{HasPlaceMore, HasTaken}
-use Rattle.session.proofs.Lists.{item_at-map, item_at-more}
+use Rattle.trace_core.proofs.Items.{item_at-map, item_at-append}
 use Rattle.session.specs.Publishing.{AreNamesFit}
 
 -- each packet that is known stays known
@@ -93,7 +93,7 @@ names_fit_more old new names front keep fit = record {
         let was : item_at (map known_of old.steps) number
         ≡ Some (known_of step) = item_at-map known_of old.steps number
         ∙ ap (option_map known_of) at in
-        let now : item_at (map known_of new.steps) number ≡ Some (known_of step) = item_at-map known_of new.steps number ∙ ap (λ (xs : List Step). option_map known_of (item_at xs number)) front.is ∙ ap (option_map known_of) (item_at-more old.steps front.more number step at) in (
+        let now : item_at (map known_of new.steps) number ≡ Some (known_of step) = item_at-map known_of new.steps number ∙ ap (λ (xs : List Step). option_map known_of (item_at xs number)) front.is ∙ ap (option_map known_of) (item_at-append old.steps front.more number step at) in (
           place,
           place_step,
           is,

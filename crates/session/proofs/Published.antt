@@ -25,7 +25,7 @@ use Rattle.trace_trim.proofs.OwnWalk.{unnamed-own}
 use Rattle.trace_trim.proofs.Zips.{zip_item}
 use Rattle.session.specs.Solver.{Solver, shared_by, packet_at}
 use Rattle.session.specs.Sharing.{Knows}
-use Rattle.session.proofs.Lists.{item_at-map}
+use Rattle.trace_core.proofs.Items.{item_at-map}
 use Rattle.session.specs.Publishing.{AreNamesFit, AreNamedAnew}
 use Rattle.session.proofs.Names.{shared_at, names_fit_more, place_keeps, same_front}
 

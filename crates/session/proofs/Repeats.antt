@@ -20,7 +20,7 @@ use Rattle.session.specs.Searching.{HasStepsMore, IsSearching, solver_of}
 use Rattle.session.specs.Rounds.{AreNew, AreNamed}
 use Rattle.session.specs.Solving.{Learns}
 use Rattle.session.proofs.Lists.{All-under}
-use Rattle.session.proofs.InOrder.{in_order-ascends, in_order-has}
+use Rattle.sat_base.proofs.InOrder.{in_order-ascends, in_order-has}
 use Rattle.session.proofs.UpTo.{below_greatest}
 use Rattle.session.proofs.Learning.{named_stay}
 use Rattle.session.proofs.Steps.{none_steps, steps_front, steps_behind}

@@ -26,7 +26,7 @@ use Rattle.session.specs.Units.{IsNamed}
 use Rattle.session.specs.Searching.{IsSearching, packets_of, table_of}
 use Rattle.trace_core.specs.declared.derivation.Step.{Step}
 use Rattle.session.proofs.Lists.{All-push, All-under}
-use Rattle.session.proofs.InOrder.{in_order-itself}
+use Rattle.sat_base.proofs.InOrder.{in_order-itself}
 use Rattle.session.proofs.Stocked.{stock_input, named_with_input}
 use Rattle.session.proofs.Reasons.{named_stays}
 use Rattle.session.proofs.OnTrails.{more_on_trail}

@@ -12,9 +12,10 @@ use Rattle.trace_core.specs.declared.derivation.Step.{Step}
 use Rattle.clause_arena.specs.Arena.{ArenaClause, clause_at}
 use Rattle.propagate.specs.Store.{IsSameClause, HasSameClauses}
 use Rattle.session.specs.Solver.{inputs_of, held_of, clauses_of, named_by, shared_by, known_clause}
-use Rattle.session.specs.Solver.{in_order, is_input, IsWithinItsTag}
+use Rattle.session.specs.Solver.{is_input, IsWithinItsTag}
+use Rattle.sat_base.specs.Lit.{in_order}
 use Rattle.session.specs.Stock.{IsStocked}
-use Rattle.session.proofs.InOrder.{in_order-same}
+use Rattle.sat_base.proofs.InOrder.{in_order-same}
 
 -- each pair is one clause with one name
 pub record IsOneClause (old new : ArenaClause) : Type 0 where

@@ -8,7 +8,7 @@ use Rattle.clause_arena.specs.Arena.{clause_at, no_clause}
 use Rattle.trail_core.specs.Trail.{Entry, TrailView, IsTrail, entry_at, no_entry, lits_of}
 use Rattle.analyze.specs.Table.{IsNameOf}
 use Rattle.session.specs.Units.{KnowsOpposites}
-use Rattle.session.proofs.InOrder.{in_order-has}
+use Rattle.sat_base.proofs.InOrder.{in_order-has}
 use Rattle.std.proofs.lemmas.List.{length_push, map_push, get_or-map, length-set, append-nil}
 use Rattle.std.proofs.lemmas.List.{append_assoc}
 use Rattle.sat_base.specs.Lit.{variable}
@@ -21,7 +21,8 @@ use Rattle.session.specs.declared.search.Search.{Search}
 use Rattle.session.specs.Solver.{inputs_of, held_of, named_by, IsStep, known_clause}
 use Rattle.session.specs.Stock.{IsStocked}
 use Rattle.session.specs.Searching.{IsSearching, HasUnitsMore, packets_of, table_of}
-use Rattle.session.proofs.Lists.{All-under, item_at-more}
+use Rattle.session.proofs.Lists.{All-under}
+use Rattle.trace_core.proofs.Items.{item_at-append}
 use Rattle.session.proofs.Stocked.{named_with_step, named_last, stock_step}
 use Rattle.session.proofs.Reasons.{named_stays, name_one, IsReason, reason_is, opposites_known}
 
@@ -83,7 +84,7 @@ more_steps search steps step pushed ok s =
     (λ number one is. subst (λ (xs : List Step). IsStep xs number one) (sym pushed)
     (subst (λ xs. item_at xs number ≡ Some one)
     (sym (map_push known_of search.steps.items step))
-    (item_at-more (map known_of search.steps.items) (known_of step ∷ []) number one is))) s
+    (item_at-append (map known_of search.steps.items) (known_of step ∷ []) number one is))) s
 
 pub last_named : (search : Search) (steps : Vec Step Global) (step : Step) (number : ℕ)
     → steps.items ≡ search.steps.items ++ step ∷ [] → number ≡ length steps.items

@@ -10,8 +10,8 @@ use Rattle.clause_arena.specs.Arena.{ArenaClause}
 use Rattle.session.specs.declared.search.Search.{Search}
 use Rattle.session.specs.Solver.{inputs_of, clauses_of, known_clause, is_input}
 use Rattle.session.specs.Searching.{IsSearching}
-use Rattle.session.proofs.Lists.{Contains-from_filter}
-use Rattle.session.proofs.InOrder.{in_order-has}
+use Rattle.trace_core.proofs.Items.{Contains-from_filter}
+use Rattle.sat_base.proofs.InOrder.{in_order-has}
 use Rattle.session.proofs.UpTo.{greatest_within, greatest_all_within}
 
 lit_bound : (lit : ℕ) → IsLit lit → variable lit ≤ 8388607
@@ -31,7 +31,8 @@ few_variables s kept = subst (λ n. n ≤ 8388607) (sym kept.counted.greatest)
         (filter (λ c. is_input c.origin) s.store.clauses) known known_in in
         let all = All-contains (λ
         (c : ArenaClause). All IsLit c.lits) s.store.clauses clause kept.stock.lits
-        (Contains-from_filter (λ (c : ArenaClause). is_input c.origin) s.store.clauses clause clause_in) in
+        (Contains-from_filter (λ (c : ArenaClause). is_input c.origin)
+        s.store.clauses clause clause_in).0 in
         subst (λ xs. greatest_of xs ≤ 8388607) (ap (λ (one : Known). one.clause) clause_is ∙ is)
         (greatest_within (known_clause clause).clause 8388607
         (λ lit lit_in. lit_bound lit (All-contains IsLit clause.lits lit all

@@ -9,9 +9,10 @@ use Rattle.sat_base.specs.declared.origins.Ref.{Ref}
 use Rattle.trace_core.specs.Known.{Known}
 use Rattle.clause_arena.specs.Arena.{ArenaClause}
 use Rattle.session.proofs.Lists.{All-under}
-use Rattle.session.proofs.InOrder.{in_order-has}
+use Rattle.sat_base.proofs.InOrder.{in_order-has}
 use Rattle.session.specs.declared.search.Search.{Search}
-use Rattle.session.specs.Solver.{IsSound, inputs_of, held_of, clauses_of, known_clause, in_order}
+use Rattle.session.specs.Solver.{IsSound, inputs_of, held_of, clauses_of, known_clause}
+use Rattle.sat_base.specs.Lit.{in_order}
 use Rattle.session.specs.Solver.{is_input, IsWithinItsTag}
 use Rattle.session.specs.Searching.{IsSearching, solver_of, table_of}
 

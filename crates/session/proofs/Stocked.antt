@@ -24,9 +24,11 @@ use Rattle.clause_arena.specs.Arena.{ArenaClause}
 use Rattle.session.specs.Solver.{inputs_of, held_of, clauses_of, named_by, shared_by, known_in}
 use Rattle.session.specs.Solver.{packet_at, last_step_of, known_clause, is_input, IsWithinItsTag}
 use Rattle.session.specs.Stock.{IsStocked}
-use Rattle.session.proofs.Lists.{item_at-more, item_at-last, item_at-map, All-push, All-under}
-use Rattle.session.proofs.Lists.{greatest_below, Contains-from_filter}
-use Rattle.session.proofs.InOrder.{in_order-itself}
+use Rattle.session.proofs.Lists.{All-push, All-under}
+use Rattle.trace_core.proofs.Items.{item_at-append, item_at-last, item_at-map}
+use Rattle.session.proofs.Lists.{greatest_below}
+use Rattle.trace_core.proofs.Items.{Contains-from_filter}
+use Rattle.sat_base.proofs.InOrder.{in_order-itself}
 use Rattle.session.proofs.Proper.{hints_proper, negation_consistent}
 use Rattle.session.proofs.UpTo.{below_greatest, greatest_within, greatest_grows, input_within}
 
@@ -34,7 +36,7 @@ use Rattle.session.proofs.UpTo.{below_greatest, greatest_within, greatest_grows,
 pub named_with_input : (inputs : List Known) (input : Known) (packets : List (Option (List Step)))
     (steps : List Step) (name : Ref) (one : Known) → named_by inputs packets steps name ≡ Some one
     → named_by (inputs ++ input ∷ []) packets steps name ≡ Some one
-named_with_input inputs input packets steps (Input number) one is = item_at-more inputs
+named_with_input inputs input packets steps (Input number) one is = item_at-append inputs
     (input ∷ []) number one is
 named_with_input inputs input packets steps (Shared place step) one is = is
 named_with_input inputs input packets steps (Own number) one is = is
@@ -47,7 +49,7 @@ named_with_step inputs packets steps step (Input number) one is = is
 named_with_step inputs packets steps step (Shared place number) one is = is
 named_with_step inputs packets steps step (Own number) one is =
     subst (λ knowns. item_at knowns number ≡ Some one) (sym (map_push known_of steps step))
-    (item_at-more (map known_of steps) (known_of step ∷ []) number one is)
+    (item_at-append (map known_of steps) (known_of step ∷ []) number one is)
 
 pub named_last : (inputs : List Known) (packets : List (Option (List Step))) (steps : List Step)
     (step : Step) (number : ℕ) → number ≡ length steps + 1
@@ -78,7 +80,7 @@ ok_push inputs shared own (first ∷ steps) step ok one = (
 known_with_input : (inputs : List Known) (shared : List (List Known)) (own : List Known)
     (input : Known) (name : Ref) (one : Known) → known inputs shared own name ≡ Some one
     → known (inputs ++ input ∷ []) shared own name ≡ Some one
-known_with_input inputs shared own input (Input number) one is = item_at-more inputs
+known_with_input inputs shared own input (Input number) one is = item_at-append inputs
     (input ∷ []) number one is
 known_with_input inputs shared own input (Shared place step) one is = is
 known_with_input inputs shared own input (Own number) one is = is
@@ -154,7 +156,8 @@ input_held clauses one has =
     let from = Contains-from_map known_clause (filter
     (λ clause. is_input clause.origin) clauses) one has in
     subst (Contains (held_of clauses)) from.2 (Contains-map known_clause clauses from.0
-    (Contains-from_filter (λ (clause : ArenaClause). is_input clause.origin) clauses from.0 from.1))
+    (Contains-from_filter
+    (λ (clause : ArenaClause). is_input clause.origin) clauses from.0 from.1).0)
 
 -- What a solver names is a held clause or the clause of a step; so it follows from the inputs, and
 -- its tag is at most the bound.

@@ -31,8 +31,9 @@ use Rattle.session.specs.OnTrail.{IsOnTrail}
 use Rattle.session.specs.Units.{IsNamed}
 use Rattle.session.specs.Searching.{IsSearching, packets_of, solver_of, table_of}
 use Rattle.session.specs.Sharing.{IsTakable, HasPlaceMore, HasTaken, IsHeld, HoldsLast}
-use Rattle.session.proofs.Lists.{All-push, All-under, item_at-map}
-use Rattle.session.proofs.InOrder.{in_order-itself}
+use Rattle.session.proofs.Lists.{All-push, All-under}
+use Rattle.trace_core.proofs.Items.{item_at-map}
+use Rattle.sat_base.proofs.InOrder.{in_order-itself}
 use Rattle.session.proofs.UpTo.{below_greatest, among_greatest, greatest_all_within, among_inputs}
 use Rattle.session.proofs.Stocked.{held_push}
 use Rattle.session.proofs.Reasons.{named_stays}

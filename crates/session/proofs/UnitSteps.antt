@@ -21,7 +21,9 @@ use Rattle.trace_core.specs.declared.derivation.Step.{Step}
 use Rattle.clause_arena.specs.Arena.{HasNoRepeat}
 use Rattle.analyze.specs.Table.{IsNameOf, unit_of, tag_of_unit}
 use Rattle.session.specs.Units.{is_kept, others_of, only_kept, KnowsOpposites}
-use Rattle.session.proofs.Lists.{Contains-passes, map_same, map_map, greatest_push}
+use Rattle.session.proofs.Lists.{map_same, map_map}
+use Rattle.trace_core.proofs.Items.{Contains-from_filter}
+use Rattle.trace_core.proofs.TagLemmas.{greatest_push}
 
 -- no item stands twice
 abbrev pub AreApart : List ℕ → Type 0
@@ -51,7 +53,7 @@ apart_filter p (x ∷ xs) a = by_test (p x) (apart_filter p xs a.1)
   where
     by_test : (b : Bool) → AreApart (filter p xs)
         → AreApart (cond b (x ∷ filter p xs) (filter p xs))
-    by_test true rest = (λ has. a.0 (Contains-passes p xs x has).0, rest)
+    by_test true rest = (λ has. a.0 (Contains-from_filter p xs x has).0, rest)
     by_test false rest = rest
 
 goes_on : (set hint : List ℕ) (lit : ℕ) (more : List (List ℕ)) → 0 < length more
@@ -127,7 +129,7 @@ differs_from (Some k) lit pass is =
 
 pub other_is : (kept : Option ℕ) (lits : List ℕ) (lit : ℕ) → Contains (others_of kept lits) lit
     → Contains lits lit × (kept ≢ Some lit)
-other_is kept lits lit has = let p = Contains-passes (λ x. not (is_kept kept x)) lits lit has in
+other_is kept lits lit has = let p = Contains-from_filter (λ x. not (is_kept kept x)) lits lit has in
     (p.0, differs_from kept lit p.1)
 
 kept_or_other : (kept : Option ℕ) (lits : List ℕ) (lit : ℕ) → Contains lits lit

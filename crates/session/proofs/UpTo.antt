@@ -8,7 +8,7 @@ use Rattle.sat_base.proofs.Members.{Contains-from_map, Contains-filter}
 use Rattle.trace_core.specs.Known.{Known}
 use Rattle.trace_core.specs.Law.{clauses_up_to}
 use Rattle.session.specs.Solver.{clauses_of}
-use Rattle.session.proofs.Lists.{Contains-passes}
+use Rattle.trace_core.proofs.Items.{Contains-from_filter}
 
 pub below_greatest : (clause : List ℕ) (lit : ℕ) → Contains clause lit
     → variable lit ≤ greatest_of clause
@@ -52,7 +52,7 @@ up_to_more : (inputs more : List Known) (low high : ℕ) (clause : List ℕ)
 up_to_more inputs more low high clause grows le has =
     let m = Contains-from_map (λ (one : Known). one.clause)
     (filter (λ one. nat_le one.tag low) inputs) clause has in
-    let f = Contains-passes (λ (one : Known). nat_le one.tag low) inputs m.0 m.1 in
+    let f = Contains-from_filter (λ (one : Known). nat_le one.tag low) inputs m.0 m.1 in
     subst (Contains (clauses_up_to more high)) m.2
     (Contains-map (λ (one : Known). one.clause) (filter (λ one. nat_le one.tag high) more) m.0
     (Contains-filter (λ (one : Known). nat_le one.tag high) more m.0 (grows m.0 f.0)
@@ -68,7 +68,7 @@ among_inputs inputs tag clause has =
     let m = Contains-from_map (λ (one : Known). one.clause)
     (filter (λ one. nat_le one.tag tag) inputs) clause has in
     subst (Contains (clauses_of inputs)) m.2 (Contains-map (λ (one : Known). one.clause) inputs m.0
-    (Contains-passes (λ (one : Known). nat_le one.tag tag) inputs m.0 m.1).0)
+    (Contains-from_filter (λ (one : Known). nat_le one.tag tag) inputs m.0 m.1).0)
 
 pub greatest_grows : (inputs more : List Known) (low high : ℕ)
     → ((one : Known) → Contains inputs one → Contains more one) → low ≤ high

@@ -4,25 +4,13 @@ use Rattle.std.specs.Prelude.{◌∷◌, length, map, filter, All, Contains, Opt
 use Rattle.std.specs.Prelude.{option_and_then}
 use Rattle.sat_base.specs.declared.origins.Ref.{Ref}
 use Rattle.sat_base.specs.declared.origins.Ref.TheVariants.{Input, Shared, Own}
-use Rattle.sat_base.specs.Lit.{IsTautology, greatest_of, greatest_of_all}
+use Rattle.sat_base.specs.Lit.{IsTautology, greatest_of, greatest_of_all, in_order}
 use Rattle.sat_base.specs.Truth.{Entails}
 use Rattle.trace_core.specs.Known.{Known, item_at}
 use Rattle.trace_core.specs.Law.{clauses_up_to}
 use Rattle.trace_core.specs.Trace.{AreOkSteps, known_of}
 use Rattle.trace_core.specs.declared.derivation.Step.{Step}
 use Rattle.clause_arena.specs.Arena.{ArenaClause}
-
--- the literal among these, which ascend, unless it is there
-abbrev pub put_in : ℕ → List ℕ → List ℕ
-put_in lit [] = lit ∷ []
-put_in lit (other ∷ lits) =
-    if nat_lt lit other then lit ∷ other ∷ lits
-    else (if lit == other then other ∷ lits else other ∷ put_in lit lits)
-
--- the literals of a clause in their one order
-abbrev pub in_order : List ℕ → List ℕ
-in_order [] = []
-in_order (lit ∷ lits) = put_in lit (in_order lits)
 
 -- The inputs, each with the number of the first job that has it; the number of the job that is
 -- loaded; the clauses that are held; the own steps, and the numbers of those that are learnt

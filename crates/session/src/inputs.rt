@@ -6,7 +6,7 @@ ghost use Rattle.session.specs.Searching.{IsSearching, solver_of};
 ghost use Rattle.session.specs.Loading.{HasInputsOnly, HasInputsMore, loaded};
 
 use crate::search::Search;
-use sat_base::{Clause, Cube, Lit, Ref};
+use sat_base::{Clause, Cube, Ref, greatest_variable};
 use std::alloc::AllocError;
 
 /// Adds the clauses of the next job behind the inputs, and makes it the job that is loaded. The
@@ -119,17 +119,6 @@ fn grow_tags(tags: &mut Vec<u32>, places: usize) -> Result<(), AllocError>
         return Ok(());
     }
     tags.resize(places, 0)
-}
-
-// The greatest variable, 0 if there is none.
-pub(crate) fn greatest_variable(lits: &[Lit]) -> u32
-    ensures { result ≡ greatest_of lits.now }
-{
-    let mut greatest: u32 = 0;
-    for lit in lits {
-        greatest = greatest.max(lit.var());
-    }
-    greatest
 }
 
 // The greatest variable of the clauses, 0 if there is none.

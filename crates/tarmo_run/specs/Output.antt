@@ -4,13 +4,12 @@ use Rattle.std.specs.Prelude.{Option, Some, None, IsSome, List, [], ◌++◌, ma
 use Rattle.std.specs.Fmt.{decimal}
 use Rattle.run_io.specs.Bytes.{followed_by, appended}
 use Rattle.trace_core.specs.Known.{item_at}
-use Rattle.icnf_text.specs.declared.faults.Reason.{Reason}
-use Rattle.icnf_text.specs.declared.faults.Reason.TheVariants as reason
 use Rattle.icnf_text.specs.declared.faults.Fault.{Fault}
 use Rattle.icnf_text.specs.declared.statements.Statement.{Statement}
 use Rattle.icnf_text.specs.declared.statements.Numbered.{Numbered}
 use Rattle.icnf_text.specs.Judgement.{statements, wrong}
 use Rattle.icnf_text.specs.Jobs.{Job, jobs_of}
+use Rattle.icnf_text.specs.Reasons.{reason_text}
 use Rattle.entry_core.specs.declared.answers.Verdict.{Verdict}
 use Rattle.entry_core.specs.declared.answers.Verdict.TheVariants as verdict
 use Rattle.entry_core.specs.declared.answers.Outcome.{Outcome}
@@ -100,14 +99,6 @@ status_before Exhausted board = 6
 abbrev pub status_of : Ending → State → ℕ
 status_of ending board =
     if is_one_so is_starved board (jobs board.journal) then 6 else status_before ending board
-
-abbrev pub reason_text : Reason → List ℕ
-reason_text reason.Header = codes "header"
-reason_text reason.Token = codes "token"
-reason_text reason.Variable = codes "variable"
-reason_text reason.Unfinished = codes "unfinished"
-reason_text reason.TooMany = codes "too-many"
-reason_text reason.TooLong = codes "too-long"
 
 abbrev pub last_line_of : Ending → List ℕ
 last_line_of (Complete count) = codes "end " ++ decimal count ++ codes "\n"

@@ -9,13 +9,14 @@ ghost use Rattle.board_core.specs.Replies.{IsJob};
 ghost use Rattle.run_io.specs.Bytes.{appended};
 ghost use Rattle.run_io.specs.Fault.{HasCause};
 ghost use Rattle.tarmo_run.specs.Output.{is_one_so, is_undecided, lacking, lacks_by, last_line_of};
-ghost use Rattle.tarmo_run.specs.Output.{reason_text, status_of};
+ghost use Rattle.icnf_text.specs.Reasons.{reason_text};
+ghost use Rattle.tarmo_run.specs.Output.{status_of};
 ghost use Rattle.tarmo_run.specs.Ended.{TookFrontOfLine};
 ghost use Rattle.tarmo_run.specs.declared.endings.Ending.TheVariants as endings;
 
 use board_core::Board;
 use entry_core::Outcome;
-use icnf_text::{Fault, Reason};
+use icnf_text::Fault;
 use line_tokens::print_number;
 use run_io::{Failed, Sink, write_all};
 use std::alloc::{AllocError, Global};
@@ -184,22 +185,9 @@ fn refused_line(alloc: Global, fault: Fault) -> Result<Vec<u8>, AllocError>
     line.extend_from_slice(b"refused ")?;
     print_number(&mut line, fault.line)?;
     line.extend_from_slice(b" ")?;
-    line.extend_from_slice(reason_text(fault.reason))?;
+    line.extend_from_slice(fault.reason.text())?;
     line.extend_from_slice(b"\n")?;
     Ok(line)
-}
-
-fn reason_text(reason: Reason) -> &'static [u8]
-    ensures { result.now ≡ reason_text reason }
-{
-    match reason {
-        Reason::Header => b"header",
-        Reason::Token => b"token",
-        Reason::Variable => b"variable",
-        Reason::Unfinished => b"unfinished",
-        Reason::TooMany => b"too-many",
-        Reason::TooLong => b"too-long",
-    }
 }
 
 // Writes the line as one piece, and flushes.

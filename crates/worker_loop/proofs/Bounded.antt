@@ -14,7 +14,8 @@ use Rattle.trace_core.proofs.Items.{item_at-contains}
 use Rattle.entry_core.specs.Law.{IsBounded}
 use Rattle.entry_core.proofs.SharedPackets.{packets_are_bounded}
 use Rattle.session.specs.Solver.{Solver, IsSound, last_step_of, packet_at, shared_by}
-use Rattle.session.proofs.Lists.{All-push, greatest_below, item_at-last}
+use Rattle.session.proofs.Lists.{All-push, greatest_below}
+use Rattle.trace_core.proofs.Items.{item_at-last}
 use Rattle.session.proofs.Names.{shared_at}
 use Rattle.worker_loop.specs.declared.bench.Bench.{Bench}
 use Rattle.worker_loop.specs.Fits.{FitsLegal, read_by}

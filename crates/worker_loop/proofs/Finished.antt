@@ -17,6 +17,7 @@ use Rattle.entry_core.specs.Attempts.{Attempt, begun_by, attempts, attempt, is_o
 use Rattle.entry_core.specs.Settled.{or_else, given_if, overtaken, standing, settled_after, settled}
 use Rattle.entry_core.specs.Schedule.{IsWaiting}
 use Rattle.entry_core.specs.Legal.{AreWithinLimits, IsAllowed, IsLegal, IsLegalAfter, IsWorker}
+use Rattle.entry_core.proofs.LongerJournals.{no_case_later}
 use Rattle.board_core.specs.State.{State}
 use Rattle.board_core.specs.declared.task.Task.{Task}
 use Rattle.board_core.specs.declared.task.Task.TheVariants as task
@@ -35,18 +36,6 @@ pub no_task : (old new : State) (caller : ℕ) (told : Task) → (told ≡ task.
     → (new ≡ old) × ((job : ℕ) → IsWaiting old.rules old.journal job → ⊥)
 no_task old new caller told (inl is) said = let done = subst (IsTask old new caller) is said in (done.0, λ job waiting. done_idle old job done.1 waiting)
 no_task old new caller told (inr is) said = let idle = subst (IsTask old new caller) is said in (idle.0, idle.1.nobody)
-
--- the cases that stand behind a journal, where none stands after it
-no_case_later : (rules : Rules) (before journal : List Entry) (job : ℕ) → standing rules before job ≡ None → settled_after rules before journal job ≡ None → standing rules (before ++ journal) job ≡ None
-no_case_later rules before [] job none is = ap (λ (all : List Entry). standing rules all job) (append-nil before) ∙ none
-no_case_later rules before (entry ∷ rest) job none is =
-    ap (λ (all : List Entry). standing rules all job) (sym (append_assoc before (entry ∷ []) rest))
-    ∙ no_case_later rules (before ++ entry ∷ []) rest job (neither (standing rules (before ++ entry ∷ []) job) (settled_after rules (before ++ entry ∷ []) rest job) is).0
-    (neither (standing rules (before ++ entry ∷ []) job) (settled_after rules (before ++ entry ∷ []) rest job) is).1
-  where
-    neither : (a b : Option Verdict) → or_else a b ≡ None → (a ≡ None) × (b ≡ None)
-    neither None b is = (refl, is)
-    neither (Some found) b is = absurd (cc)
 
 -- a job that isn't settled has spent fewer attempts than it may have
 few_spent : (rules : Rules) (journal : List Entry) (job : ℕ) → 1 ≤ rules.attempts → settled rules journal job ≡ None → spent_attempts journal job < rules.attempts

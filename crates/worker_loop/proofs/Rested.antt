@@ -12,6 +12,8 @@ use Rattle.entry_core.specs.declared.entries.Event.TheVariants as event
 use Rattle.entry_core.specs.Attempts.{Attempt, begun_by, attempts, ended_by, ended}
 use Rattle.entry_core.specs.Journal.{jobs}
 use Rattle.entry_core.specs.Legal.{IsRunning}
+use Rattle.trace_core.proofs.Items.{item_at-last}
+use Rattle.entry_core.proofs.LegalEntries.{or_yes}
 use Rattle.entry_core.proofs.LongerJournals.{item_kept}
 use Rattle.board_core.specs.State.{State}
 use Rattle.board_core.specs.Replies.{IsBegun, job_in, job_at}
@@ -24,19 +26,12 @@ use Rattle.worker_loop.specs.Working.{IsResting}
 use Rattle.worker_loop.specs.Attempts.{IsAt, HasEnded}
 use Rattle.worker_loop.proofs.Events.{ends_one}
 
--- the attempt that was just begun is the last one
-new_found : (begun : List Attempt) (new : Attempt) (number : ℕ) → number ≡ length begun + 1 → item_at (begun ++ new ∷ []) number ≡ Some new
-new_found begun new number last =
-    let some : (number == 0) ≡ false = grind (arith, nat_tests) in
-    let place : number - 1 ≡ length begun = omega arith in
-    ap (λ b. cond b None (slice_get (begun ++ new ∷ []) (number - 1))) some ∙ ap (slice_get (begun ++ new ∷ [])) place ∙ get_last begun new
-
 -- the attempt that was begun is at the job to take
 pub begun_at : (old new : State) (caller job number : ℕ) → IsBegun old new caller job number → IsAt new caller number job
 begun_at old new caller job number begun = record {
   own = begun.own;
   at_job = ap (λ (b : State). job_at b number) begun.adds ∙ ap (λ all. job_in (item_at all number)) more
-      ∙ ap job_in (new_found (attempts old.journal) this number begun.numbered);
+      ∙ ap job_in (item_at-last (attempts old.journal) this number begun.numbered);
   there = record { from_one = begun.next.waiting.from_one; added = there };
 }
   where
@@ -54,10 +49,6 @@ begun_at old new caller job number begun = record {
 not_over : (b c : Bool) → not (b || (c || false)) ≡ true → not b ≡ true
 not_over true c is = absurd (cc)
 not_over false c is = refl
-
-or_yes : (b : Bool) → not (b || (true || false)) ≡ false
-or_yes true = refl
-or_yes false = refl
 
 -- An attempt that is open after one began and ended was open before.
 open_before : (journal longer : List Entry) (caller number job k : ℕ) (begun : Attempt) → number ≡ length (attempts journal) + 1
@@ -90,7 +81,7 @@ open_before journal longer caller number job k begun numbered more ends running 
         let to = place.1 in
         let last : k ≡ length (attempts journal) + 1 = grind (arith, nat_tests) in
         let itself : record { number = number; worker = caller; job = job } ≡ begun =
-        same_Some (record { number = number; worker = caller; job = job }) begun (sym (new_found (attempts journal) (record { number = number; worker = caller; job = job }) k last) ∙ found) in
+        same_Some (record { number = number; worker = caller; job = job }) begun (sym (item_at-last (attempts journal) (record { number = number; worker = caller; job = job }) k last) ∙ found) in
         let here : number ≡ begun.number = ap (λ (a : Attempt). a.number) itself in
         let test : (number == begun.number) ≡ true = grind (arith, nat_tests) in
         let closed : false ≡ true =

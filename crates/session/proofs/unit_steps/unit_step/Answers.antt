@@ -4,7 +4,7 @@ use Rattle.sat_base.specs.declared.origins.Ref.{Ref}
 use Rattle.trace_core.specs.Trace.{greatest}
 use Rattle.clause_arena.specs.Arena.{HasNoRepeat, clause_at}
 use Rattle.analyze.specs.Table.{unit_of, tag_of_unit}
-use Rattle.session.proofs.Lists.{greatest_push}
+use Rattle.trace_core.proofs.TagLemmas.{greatest_push}
 use Rattle.session.proofs.UnitSteps.{other_more, kept_more, names_of, tags_of, unit_step_ok}
 use Rattle.session.proofs.UnitSteps.{all_taken}
 use Rattle.session.proofs.unit_steps.unit_step.Goals.{then-not-is_kept+in_ok-push, else-not-is_kept}
