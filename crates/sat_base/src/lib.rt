@@ -8,6 +8,7 @@
 mod assignments;
 mod clauses;
 mod cubes;
+mod items;
 mod laws;
 pub mod limits;
 mod literal_sets;
@@ -19,6 +20,7 @@ mod tests;
 pub use assignments::Assign;
 pub use clauses::Clause;
 pub use cubes::Cube;
+pub use items::Items;
 pub use laws::{
     cube_contradicts_its_negation, entailment_grows, few_clauses, one_answer, resolution_is_sound,
     truth_sees_members,
