@@ -15,14 +15,14 @@ ghost use Rattle.analyze.specs.Table.{KnowsArena, KnowsUnits};
 ghost use Rattle.analyze.specs.Learnt.{IsAsserting, IsNew, IsLearntBy};
 ghost use Rattle.analyze.specs.Seen.{Agree, AreClear};
 
+use crate::Scratch;
 use crate::classify::{Rule, classify};
 use crate::first_uip::first_uip;
 use crate::naming::cite_all;
 use crate::nodes::{level, literal};
 use crate::seen::{analyze_clause, clear};
-use crate::{Scratch, Variables};
 use clause_arena::Arena;
-use sat_base::{Clause, Lit, Ref};
+use sat_base::{Clause, Items, Lit, Ref};
 use std::alloc::{AllocError, Global};
 use trace_core::{Hints, Step};
 use trail_core::Trail;
@@ -37,7 +37,7 @@ pub struct Learnt {
     /// The step that derives the clause.
     pub step: Step,
     /// The variables above level 0 in the clauses that the hints name, in ascending order.
-    pub met: Variables,
+    pub met: Items<u32>,
 }
 
 /// Learns a clause from a clause of the arena that is false: resolves backwards along the trail
@@ -191,7 +191,7 @@ fn highest_level(trail: &Trail, places: &[usize], but: usize) -> u32
 }
 
 // The variables above level 0 among the places seen, in ascending order.
-fn variables_of(alloc: Global, trail: &Trail, analyzed: &[usize]) -> Result<Variables, AllocError>
+fn variables_of(alloc: Global, trail: &Trail, analyzed: &[usize]) -> Result<Items<u32>, AllocError>
     requires { All (λ place. place < length trail.now.entries) analyzed.now }
     ensures ascending { IfOk result (λ vars. IsStrictlySortedBy nat_cmp vars) }
     ensures members { IfOk result
@@ -206,5 +206,5 @@ fn variables_of(alloc: Global, trail: &Trail, analyzed: &[usize]) -> Result<Vari
     }
     vars.sort()?;
     vars.dedup();
-    Ok(Variables::of(vars))
+    Ok(Items::of(vars))
 }

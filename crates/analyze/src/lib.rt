@@ -15,9 +15,7 @@ mod nodes;
 mod refuting;
 mod scratch;
 mod seen;
-mod variables;
 
 pub use learning::{Learnt, learn};
 pub use refuting::refute;
 pub use scratch::Scratch;
-pub use variables::Variables;

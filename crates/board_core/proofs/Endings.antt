@@ -9,7 +9,7 @@ use Rattle.board_core.specs.declared.rank.Rank.{Rank}
 use Rattle.entry_core.specs.declared.answers.Answer.{Answer}
 use Rattle.entry_core.specs.declared.answers.Verdict.{Verdict}
 use Rattle.entry_core.specs.declared.answers.Verdict.TheVariants as verdict
-use Rattle.entry_core.specs.declared.segments.Clauses.{Clauses}
+use Rattle.sat_base.specs.declared.items.Items.{Items}
 use Rattle.entry_core.specs.declared.entries.Entry.{Entry}
 use Rattle.entry_core.specs.declared.entries.Event.{Event}
 use Rattle.entry_core.specs.declared.entries.Event.TheVariants as event
@@ -81,7 +81,7 @@ unsettled_ending journal how given none is = subst (λ h. IsEndingOf journal h g
 pub unsettled_at : (a : Inside) (job : ℕ) → IsKept a → (state_at a.index.jobs.items job).ending ≡ None → settled a.rules a.journal.items job ≡ None
 unsettled_at a job kept none = unsettled_ending a.journal.items (state_at a.index.jobs.items job).ending (settled a.rules a.journal.items job) none (kept.index.states job).ending
 
-pub kept_spent : (a : Inside) (after : Vec Entry Global) (states : Vec JobState Global) (waiting : List (Option Rank)) (caller number : ℕ) (learnt : Arc Clauses Global) (begun : Attempt) → IsKept a → IsRunning a.journal.items caller number begun
+pub kept_spent : (a : Inside) (after : Vec Entry Global) (states : Vec JobState Global) (waiting : List (Option Rank)) (caller number : ℕ) (learnt : Arc (Items (List ℕ)) Global) (begun : Attempt) → IsKept a → IsRunning a.journal.items caller number begun
     → (state_at a.index.jobs.items begun.job).ending ≡ None → IsSpentFor a.journal.items begun.job a.rules.conflicts (arc_value learnt)
     → IsWritten a after states waiting caller (event.Spent number learnt) begun.job (spent_state a.rules.attempts (state_at a.index.jobs.items begun.job))
     → IsKept (record a {

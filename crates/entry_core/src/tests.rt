@@ -43,22 +43,6 @@ fn a_verdict_has_the_outcome_of_its_kind(rt: HostRuntime) -> Result<(), Fail> {
 }
 
 #[test]
-fn clauses_are_kept_in_order(rt: HostRuntime) -> Result<(), Fail> {
-    let alloc = rt.alloc();
-    let mut items = Vec::new(alloc);
-    items.push(clause(alloc, &rt, &[2, -1])?)?;
-    items.push(clause(alloc, &rt, &[])?)?;
-    let clauses = Clauses::of(items);
-    let copies = clauses.copy(alloc)?.into_items();
-    let sizes = [2, 0];
-    assert!(rt; copies.len() == sizes.len() && clauses.items().len() == sizes.len());
-    for ((copy, clause), size) in copies.iter().zip(clauses.items()).zip(sizes) {
-        assert!(rt; copy == clause && clause.lits().len() == size);
-    }
-    Ok(())
-}
-
-#[test]
 fn an_entry_has_its_caller_and_event(rt: HostRuntime) -> Result<(), Fail> {
     let alloc = rt.alloc();
     let rules = Rules {

@@ -1,9 +1,6 @@
 //! What a text states.
 
-ghost use Rattle.std.specs.Prelude.{◌≡◌};
-
-use sat_base::{Clause, Cube};
-use std::marker::Model;
+use sat_base::{Clause, Cube, Items};
 
 /// One statement of a text. A cube asks whether it can be true together with all clauses before it.
 #[derive(Debug, Drop, PartialEq, Eq)]
@@ -19,40 +16,5 @@ pub struct Numbered {
     pub statement: Statement,
 }
 
-/// Statements with their lines, in the order of the text. Contracts see them as that list.
-#[derive(Debug, Drop)]
-pub struct Statements {
-    items: Vec<Numbered>,
-}
-
-impl Model for Statements {
-    ghost use Rattle.std.specs.Prelude.{List};
-    ghost use Rattle.icnf_text.specs.declared.statements.Numbered.{Numbered};
-
-    ghost Value = { List Numbered };
-
-    ghost view = { λ statements. statements.items.items };
-}
-
-impl Statements {
-    /// These statements, in this order. Takes no memory.
-    pub fn of(items: Vec<Numbered>) -> Statements
-        ensures { result ≡ items.items }
-    {
-        Statements { items }
-    }
-
-    /// The statements in order.
-    pub fn items(&self) -> &[Numbered]
-        ensures { result.now ≡ self.now }
-    {
-        &self.items
-    }
-
-    /// The statements back, in order. Takes no memory.
-    pub fn into_items(self) -> Vec<Numbered>
-        ensures { result.items ≡ self }
-    {
-        self.items
-    }
-}
+/// Statements with their lines, in the order of the text.
+pub type Statements = Items<Numbered>;

@@ -65,6 +65,17 @@ fn sets_are_sorted_and_have_no_repeats(rt: HostRuntime) -> Result<(), Fail> {
 }
 
 #[test]
+fn items_keep_their_order(rt: HostRuntime) -> Result<(), Fail> {
+    let alloc = rt.alloc();
+    for given in [[].as_slice(), [3, -1, 3].as_slice()] {
+        let list = Items::of(lits(alloc, given)?);
+        assert_eq!(rt; numbers(alloc, list.items())?.as_slice(), given);
+        assert_eq!(rt; numbers(alloc, &list.into_items())?.as_slice(), given);
+    }
+    Ok(())
+}
+
+#[test]
 fn a_negated_cube_is_sorted(rt: HostRuntime) -> Result<(), Fail> {
     let alloc = rt.alloc();
     let cube = Cube::from_lits(alloc, &lits(alloc, &[1, -2])?)?;

@@ -2,57 +2,15 @@
 
 ghost use Rattle.std.specs.Prelude.{◌≡◌, IfOk};
 
-use sat_base::{Clause, Ref};
+use sat_base::{Clause, Items, Ref};
 use std::alloc::{AllocError, Global};
 use std::marker::Model;
 
-/// The hints of a step, in the order in which a checker takes them. Contracts see them as that
-/// list.
-#[derive(Debug, Drop)]
-pub struct Hints {
-    refs: Vec<Ref>,
-}
+/// The hints of a step, in the order in which a checker takes them.
+pub type Hints = Items<Ref>;
 
-impl Model for Hints {
-    ghost use Rattle.std.specs.Prelude.{List};
-    ghost use Rattle.sat_base.specs.declared.origins.Ref.{Ref};
-
-    ghost Value = { List Ref };
-
-    ghost view = { λ hints. hints.refs.items };
-}
-
-impl Hints {
-    /// These hints. Takes no memory.
-    pub fn of(items: Vec<Ref>) -> Hints
-        ensures { result ≡ items.items }
-    {
-        Hints { refs: items }
-    }
-
-    /// The hints in order.
-    pub fn items(&self) -> &[Ref]
-        ensures { result.now ≡ self.now }
-    {
-        &self.refs
-    }
-
-    /// The hints back. Takes no memory.
-    pub fn into_items(self) -> Vec<Ref>
-        ensures { result.items ≡ self }
-    {
-        self.refs
-    }
-
-    /// Equal hints.
-    pub fn copy(&self, alloc: Global) -> Result<Hints, AllocError>
-        ensures { IfOk result (λ hints. hints ≡ self.now) }
-    {
-        Ok(Hints {
-            refs: self.refs.to_vec(alloc)?,
-        })
-    }
-}
+/// Steps in order.
+pub type Steps = Items<Step>;
 
 /// A step of a derivation: a clause, the hints that prove it, and the greatest tag among the
 /// clauses that these name, 0 without hints.
@@ -70,58 +28,9 @@ impl Step {
     {
         Ok(Step {
             clause: self.clause.copy(alloc)?,
-            hints: self.hints.copy(alloc)?,
+            hints: Items::of(self.hints.items().to_vec(alloc)?),
             tag: self.tag,
         })
-    }
-}
-
-/// Steps in order. Contracts see them as that list.
-#[derive(Debug, Drop)]
-pub struct Steps {
-    steps: Vec<Step>,
-}
-
-impl Model for Steps {
-    ghost use Rattle.std.specs.Prelude.{List};
-    ghost use Rattle.trace_core.specs.declared.derivation.Step.{Step};
-
-    ghost Value = { List Step };
-
-    ghost view = { λ steps. steps.steps.items };
-}
-
-impl Steps {
-    /// These steps. Takes no memory.
-    pub fn of(items: Vec<Step>) -> Steps
-        ensures { result ≡ items.items }
-    {
-        Steps { steps: items }
-    }
-
-    /// The steps in order.
-    pub fn items(&self) -> &[Step]
-        ensures { result.now ≡ self.now }
-    {
-        &self.steps
-    }
-
-    /// The steps back. Takes no memory.
-    pub fn into_items(self) -> Vec<Step>
-        ensures { result.items ≡ self }
-    {
-        self.steps
-    }
-
-    /// Equal steps.
-    pub fn copy(&self, alloc: Global) -> Result<Steps, AllocError>
-        ensures { IfOk result (λ steps. steps ≡ self.now) }
-    {
-        let mut copies = Vec::with_capacity(alloc, self.steps.len())?;
-        for step in &self.steps {
-            copies.push(step.copy(alloc)?)?;
-        }
-        Ok(Steps { steps: copies })
     }
 }
 
@@ -149,7 +58,18 @@ impl Packet {
         ensures { IfOk result (λ packet. packet ≡ self.now) }
     {
         Ok(Packet {
-            steps: self.steps.copy(alloc)?,
+            steps: copy_steps(&self.steps, alloc)?,
         })
     }
+}
+
+/// Equal steps.
+fn copy_steps(steps: &Steps, alloc: Global) -> Result<Steps, AllocError>
+    ensures { IfOk result (λ copies. copies ≡ steps.now) }
+{
+    let mut copies = Vec::with_capacity(alloc, steps.items().len())?;
+    for step in steps.items() {
+        copies.push(step.copy(alloc)?)?;
+    }
+    Ok(Items::of(copies))
 }

@@ -11,7 +11,7 @@ use Rattle.trace_core.specs.Known.{item_at}
 use Rattle.entry_core.specs.declared.answers.Answer.{Answer}
 use Rattle.entry_core.specs.declared.answers.Verdict.{Verdict}
 use Rattle.entry_core.specs.declared.answers.Verdict.TheVariants as verdict
-use Rattle.entry_core.specs.declared.segments.Clauses.{Clauses}
+use Rattle.sat_base.specs.declared.items.Items.{Items}
 use Rattle.entry_core.specs.declared.entries.Entry.{Entry}
 use Rattle.entry_core.specs.declared.entries.Event.{Event}
 use Rattle.entry_core.specs.declared.entries.Event.TheVariants as event
@@ -85,7 +85,7 @@ settled_by_want rules journal caller number job at =
     or_true true = refl
     or_true false = refl
 
-pub spent_by_one : (journal : List Entry) (caller number job : ℕ) (learnt : Arc Clauses Global) → is_attempt_at journal job number ≡ true
+pub spent_by_one : (journal : List Entry) (caller number job : ℕ) (learnt : Arc (Items (List ℕ)) Global) → is_attempt_at journal job number ≡ true
     → spent_attempts (journal ++ entry_by caller (event.Spent number learnt) ∷ []) job ≡ suc (spent_attempts journal job)
 spent_by_one journal caller number job learnt at =
     spent_more journal (entry_by caller (event.Spent number learnt)) job number refl refl

@@ -1,5 +1,5 @@
 use Rattle.std.proofs.Common.{◌≡◌, take}
-use Rattle.trace_core.proofs.derivation.Steps.copy.Given as goal
+use Rattle.trace_core.proofs.derivation.copy_steps.Given as goal
 
 abbrev pub invariant-loop-step : goal.invariant-loop-step
 invariant-loop-step l = l.copies.items ≡ take l.step-index l.step-items
