@@ -27,8 +27,8 @@ PacketsAreOk = (rules : Rules) (journal : List Entry) → IsLegal rules journal
     → AreOkPackets (inputs journal) [] (packets journal)
 
 -- The last step of a packet proves a short clause, no tautology, whose variables are those of the
--- input clauses up to its tag.
--- That tag is the number of a job, and no other one in the packet is above it.
+-- input clauses up to its tag. That tag is at most the number of jobs, and no other one in the
+-- packet is above it.
 pub record IsBounded (journal : List Entry) (packet : List Step) : Type 0 where
   pub front : List Step
   pub last : Step

@@ -6,7 +6,8 @@ ghost use Rattle.sat_base.specs.Lit.{in_order};
 use sat_base::{Clause, Cube, Lit, is_strictly_ascending};
 use std::alloc::{AllocError, Global};
 
-// Most texts have their literals in ascending order, so that nothing is to be sorted.
+// Most texts have their literals in ascending order, so that nothing is to be sorted. A look at the
+// literals of what was made brings that they are a set in order.
 pub(crate) fn clause_of(alloc: Global, lits: &[Lit]) -> Result<Clause, AllocError>
     ensures { IfOk result (λ clause. clause ≡ in_order lits.now) }
 {
@@ -21,6 +22,7 @@ pub(crate) fn clause_of(alloc: Global, lits: &[Lit]) -> Result<Clause, AllocErro
     Ok(clause)
 }
 
+// The same for a cube.
 pub(crate) fn cube_of(alloc: Global, lits: &[Lit]) -> Result<Cube, AllocError>
     ensures { IfOk result (λ cube. cube ≡ in_order lits.now) }
 {

@@ -91,7 +91,6 @@ pub fn print_onto(out: &mut Vec<u8>, inputs: u64, steps: &[Step]) -> Result<(), 
     ensures printed { ArePrinted inputs steps.now (steps_text inputs 0 steps.now) }
 {
     look_at(steps);
-    let _ = steps.len();
     print_lines(out, inputs, steps)
 }
 

@@ -2,7 +2,7 @@
 use Rattle.std.proofs.Common.{◌≡◌, ◌∙◌, ℕ, ◌+◌, ◌<◌, ◌≤◌, List, [], ◌∷◌, ◌++◌, map, length, take, refl, sym, ap, arith, zero, suc, append-nil}
 use Rattle.std.specs.Prelude.{max, Option, true, false}
 use Rattle.std.proofs.lemmas.List.{length-append, length-map, map-append}
-use Rattle.sat_base.specs.Lit.{greatest_of, greatest_of_all, variables}
+use Rattle.sat_base.specs.Lit.{greatest_of, variables}
 use Rattle.sat_base.proofs.Greatest.{greatest_all_push}
 use Rattle.icnf_text.specs.declared.faults.Fault.{Fault}
 use Rattle.icnf_text.specs.declared.statements.Numbered.{Numbered}

@@ -1,16 +1,13 @@
 //! What one line of an output comes to.
 
 ghost use Rattle.std.specs.Prelude.{◌≡◌, ◌≤◌, ◌<◌, ◌+◌, ◌-◌, ◌⊎◌, ◌↔◌, ◌&&◌, if◌then◌else◌, nat_lt};
-ghost use Rattle.std.specs.Prelude.{codes, length, All, Contains, IfOk, IsTrue, MatchResult, Ok};
+ghost use Rattle.std.specs.Prelude.{length, All, Contains, IfOk, IsTrue, MatchResult, Ok};
 ghost use Rattle.std.specs.Prelude.{Err};
 ghost use Rattle.sat_base.specs.Lit.{IsLitSet};
-ghost use Rattle.std.specs.Str.{bytes_eq};
-ghost use Rattle.line_tokens.specs.Token.{token_is_decimal, tokens_of};
 ghost use Rattle.verdict_text.specs.Line.{job_line_of, model_line_of, part_line_of};
 ghost use Rattle.verdict_text.specs.Text.{is_number};
 ghost use Rattle.verdict_audit.specs.Audit.{Closes, HasJob, JudgesLine, JudgesPart, JudgesStep};
-ghost use Rattle.verdict_audit.specs.Audit.{State, at_job_line, at_last_line, at_model, begun};
-ghost use Rattle.verdict_audit.specs.Audit.{is_end_of_tokens, is_reason, is_stop, one_more};
+ghost use Rattle.verdict_audit.specs.Audit.{State, at_job_line, at_model, begun, one_more};
 ghost use Rattle.verdict_audit.specs.Audit.{with_proved, with_unproved, tags_of};
 ghost use Rattle.verdict_audit.specs.Case.{Case, clauses_of, cube_of, inputs_of, variables_of};
 ghost use Rattle.trace_text.specs.Text.{next_step};
@@ -21,10 +18,9 @@ ghost use Rattle.verdict_audit.specs.declared.findings.Wrong.TheVariants as wron
 
 use crate::Flaw;
 use crate::findings::Wrong;
+use crate::last_line::take_last_line;
 use crate::places::{Place, Proof, Tally};
 use crate::problem::Problem;
-use icnf_text::Reason;
-use line_tokens::{cut_at, is_decimal};
 use sat_base::Lit;
 use std::alloc::Global;
 use trace_text::{TraceFault, read_step};
@@ -88,75 +84,6 @@ fn is_next(jobs: u64, begun: u64, line: &JobLine) -> bool
     match line.number {
         None => false,
         Some(number) => begun < jobs && number == begun + 1,
-    }
-}
-
-fn is_reason(word: &[u8]) -> bool
-    ensures { result ≡ is_reason word.now }
-{
-    word == Reason::Header.text()
-        || word == Reason::Token.text()
-        || word == Reason::Variable.text()
-        || word == Reason::Unfinished.text()
-        || word == Reason::TooMany.text()
-        || word == Reason::TooLong.text()
-}
-
-// Whether a line tells that the run stopped.
-fn is_stop(line: &[u8]) -> bool
-    ensures { result ≡ is_stop line.now }
-{
-    line == b"fault read".as_slice() || line == b"memory".as_slice()
-}
-
-fn is_count(word: &[u8], number: &[u8]) -> bool
-    ensures { result ≡ (bytes_eq word.now (codes "end") && token_is_decimal number.now) }
-{
-    word == b"end".as_slice() && is_decimal(number)
-}
-
-fn is_refusal(word: &[u8], number: &[u8], reason: &[u8]) -> bool
-    ensures { result
-        ≡ (bytes_eq word.now (codes "refused") &&
-        (token_is_decimal number.now && is_reason reason.now)) }
-{
-    word == b"refused".as_slice() && (is_decimal(number) && is_reason(reason))
-}
-
-// Whether a line is `end` and a number, or `refused`, a number and a reason.
-fn is_end(line: &[u8]) -> bool
-    ensures { result ≡ is_end_of_tokens (tokens_of line.now) }
-{
-    let Some((word, rest)) = cut_at(line, b' ') else {
-        return false;
-    };
-    let Some((number, reason)) = cut_at(rest, b' ') else {
-        return is_count(word, rest);
-    };
-    if let Some((_, _)) = cut_at(reason, b' ') {
-        return false;
-    }
-    is_refusal(word, number, reason)
-}
-
-// Takes a last line.
-fn take_last_line(problem: &Problem, tally: Tally, line: &[u8]) -> Result<Place, Flaw>
-    ensures outcome { MatchResult result
-        (λ next. at_last_line problem.now tally line.now
-        ≡ Ok
-        (record { tally = tally; place = next })) (λ why. at_last_line problem.now tally line.now
-        ≡ Err (wrong.Line why)) }
-{
-    if is_stop(line) {
-        return Ok(Place::End);
-    }
-    if !is_end(line) {
-        return Err(Flaw::Form);
-    }
-    if line == problem.last() && tally.begun == problem.jobs() {
-        Ok(Place::End)
-    } else {
-        Err(Flaw::Last)
     }
 }
 

@@ -8,6 +8,7 @@
 mod auditing;
 mod findings;
 mod judging;
+mod last_line;
 mod laws;
 mod places;
 mod problem;

@@ -112,6 +112,7 @@ fn refutes(alloc: Global, part: &Cube, steps: &[Step]) -> Result<bool, AllocErro
 fn is_same(clause: &Clause, other: &Clause) -> bool
     ensures { IsTrue result ↔ ((lit : ℕ) → Contains clause.now lit ↔ Contains other.now lit) }
 {
+    // Bring that the literals of both are sets in order.
     let _ = clause.lits();
     let _ = other.lits();
     *clause == *other

@@ -220,6 +220,11 @@ fn what_ends_an_attempt_at_a_cancelled_job_comes_late(rt: HostRuntime) -> Result
             })
         )
     );
+    closing(alloc, &rt, &mut board)
+}
+
+// A board of four entries with nothing left to do is closed at place 5.
+fn closing(alloc: Global, rt: &impl Abort, board: &mut Board) -> Result<(), Fail> {
     assert!(rt; board.rules().clients == 2 && board.rules().workers == 1);
     assert_eq!(rt; board.close_input(1), Ok(()));
     assert!(rt;
@@ -232,11 +237,6 @@ fn what_ends_an_attempt_at_a_cancelled_job_comes_late(rt: HostRuntime) -> Result
         )
     );
     assert_eq!(rt; board.journal().len(), 5);
-    ended(alloc, &rt, &mut board)
-}
-
-// A board that was closed at place 5, with nothing left to do.
-fn ended(alloc: Global, rt: &impl Abort, board: &mut Board) -> Result<(), Fail> {
     assert!(rt; board.rules().clients == 2 && board.rules().workers == 1);
     assert_eq!(rt; board.close_input(2), Err(5));
     assert!(rt; board.rules().clients == 2 && board.rules().workers == 1);

@@ -1,6 +1,6 @@
 use Rattle.std.proofs.Common.{◌∙◌, rules}
 use Rattle.verdict_audit.proofs.EndLines.{one_token, two_tokens, three_tokens, four_tokens}
-use Rattle.verdict_audit.proofs.judging.is_end.Goals as goal
+use Rattle.verdict_audit.proofs.last_line.is_end.Goals as goal
 
 pub returns-in_default : goal.returns-in_default
 returns-in_default c = one_token c.args.line.now (search rules)
