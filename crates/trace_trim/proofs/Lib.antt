@@ -8,4 +8,5 @@ pub mod Numbers
 pub mod Zips
 pub mod OkSteps
 pub mod Traced
+pub mod Existence
 pub mod Packed

@@ -1,4 +1,5 @@
 pub mod Names
+pub mod Law
 pub mod Packed
 pub mod Reached
 pub mod Trimmed

@@ -7,6 +7,7 @@
 //! is ok over it. This crate knows no text, no solver and no board.
 #![tactic(auto)]
 
+mod laws;
 mod lookup;
 mod own_reach;
 mod own_renumber;
@@ -17,6 +18,7 @@ mod renumber;
 mod tests;
 mod trimming;
 
+pub use laws::ok_steps_have_traces;
 pub use own_reach::packed_numbers;
 pub use packing::pack;
 pub use trimming::trim;
