@@ -176,7 +176,7 @@ get_last [] x = refl
 get_last (y ∷ ys) x = get_last ys x
 
 pub kept_decided : (a : Inside) (after : Vec Entry Global) (states : Vec JobState Global) (waiting : List (Option Rank)) (caller number place : ℕ) (given : Arc Answer Global) (begun : Attempt) → IsKept a → IsRunning a.journal.items caller number begun
-    → (state_at a.index.jobs.items begun.job).ending ≡ None → IsRightAnswer a.journal.items begun.job (arc_value given) → place ≡ vec_len a.journal
+    → (state_at a.index.jobs.items begun.job).ending ≡ None → IsRightAnswer a.rules.traces a.journal.items begun.job (arc_value given) → place ≡ vec_len a.journal
     → IsWritten a after states waiting caller (event.Decided number given) begun.job (settled_state (ending.Answered place) (state_at a.index.jobs.items begun.job))
     → IsKept (record a { journal = after; index = record a.index { jobs = states; waiting = waiting; settled = a.index.settled + 1; open_now = a.index.open_now - 1 } })
 kept_decided a after states waiting caller number place given begun kept running none right here written =

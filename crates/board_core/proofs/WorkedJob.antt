@@ -1,5 +1,5 @@
 -- What may be shared, learnt and answered on a board with the worked job.
-use Rattle.std.proofs.Common.{◌≡◌, ◌∙◌, ℕ, ◌≤◌, List, [], ◌∷◌, ◌++◌, None, Result, Ok, Err, length, refl, ap, sym, subst, arith, inl, inr, true, false}
+use Rattle.std.proofs.Common.{◌≡◌, ◌∙◌, ℕ, ◌≤◌, Bool, List, [], ◌∷◌, ◌++◌, None, Result, Ok, Err, length, refl, ap, sym, subst, arith, inl, inr, true, false}
 use Rattle.std.specs.Prelude.{◌⊎◌, IsTrue, OnOk, OnErr, All, Contains, filter, nat_le, IsSome, not, ◌==◌}
 use Rattle.std.specs.List.{list_any}
 use Rattle.std.proofs.lemmas.List.Elements.{All-nil, All-cons}
@@ -126,8 +126,8 @@ spent journal job is one = subst (λ j. IsSpentFor journal j 1 ((4 ∷ []) ∷ [
 model : IsModelOf worked_job.clauses [] (false ∷ true ∷ [])
 model = record { size = refl; clauses_hold = refl; cube_holds = refl }
 
-pub right : (journal : List Entry) (job : ℕ) → segments journal ≡ worked_job ∷ [] → job ≡ 1 → IsRightAnswer journal job (answer.Model (false ∷ true ∷ []))
-right journal job is one = subst (λ j. IsRightAnswer journal j (answer.Model (false ∷ true ∷ []))) (sym one)
+pub right : (traces : Bool) (journal : List Entry) (job : ℕ) → segments journal ≡ worked_job ∷ [] → job ≡ 1 → IsRightAnswer traces journal job (answer.Model (false ∷ true ∷ []))
+right traces journal job is one = subst (λ j. IsRightAnswer traces journal j (answer.Model (false ∷ true ∷ []))) (sym one)
     (subst (λ all. IsModelOf (clauses_up_to (tagged_from 1 all) 1) (cube_in (item_at all 1)) (false ∷ true ∷ [])) (sym is) model)
 
 -- an entry that adds no job

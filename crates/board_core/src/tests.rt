@@ -43,6 +43,7 @@ fn board(alloc: Global) -> Result<Board, AllocError> {
             attempts: 1,
             conflicts: 1,
             first: false,
+            traces: true,
         },
     )
 }
@@ -165,6 +166,7 @@ fn an_answer_settles_its_job(rt: HostRuntime) -> Result<(), Fail> {
         attempts: 2,
         conflicts: 1,
         first: false,
+        traces: true,
     };
     let mut board = Board::new(alloc, rules)?;
     let segment = Segment {

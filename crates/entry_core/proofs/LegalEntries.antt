@@ -12,7 +12,6 @@ use Rattle.sat_base.specs.Lit.{variables}
 use Rattle.sat_base.specs.Truth.{IsModelOf, IsRefutedPart}
 use Rattle.sat_base.proofs.Members.{Contains-here, Contains-there, Contains-cases}
 use Rattle.trace_core.specs.Known.{Known, item_at}
-use Rattle.trace_core.specs.Trace.{IsTrace}
 use Rattle.trace_core.proofs.Items.{item_at-contains, item_at-append}
 use Rattle.entry_core.specs.declared.answers.Answer.{Answer}
 use Rattle.entry_core.specs.declared.answers.Answer.TheVariants as answer
@@ -23,7 +22,7 @@ use Rattle.entry_core.specs.declared.rules.Rules.{Rules}
 use Rattle.entry_core.specs.Journal.{jobs, clauses_of, cube_of}
 use Rattle.entry_core.specs.Attempts.{Attempt, begun_by, attempts, attempt, is_at, is_attempt_at}
 use Rattle.entry_core.specs.Settled.{Decision, decision_of, decisions}
-use Rattle.entry_core.specs.Right.{IsRightAnswer, IsSpent, IsSpentFor}
+use Rattle.entry_core.specs.Right.{HasTrace, IsRightAnswer, IsSpent, IsSpentFor}
 use Rattle.entry_core.specs.Legal.{IsAllowed, IsLegalAfter, IsLegal, MayDecide, MaySpend}
 use Rattle.entry_core.specs.Causes.{spent_list_of, spent_lists}
 use Rattle.entry_core.proofs.LongerJournals.{longer_journal_keeps}
@@ -160,7 +159,7 @@ job_there rules journal number begun legal found =
     omega arith
 
 -- a right answer stays right
-pub right_kept : (rules : Rules) (journal more : List Entry) (job : ℕ) (given : Answer) → job ≤ jobs journal → IsRightAnswer journal job given → IsRightAnswer (journal ++ more) job given
+pub right_kept : (rules : Rules) (journal more : List Entry) (job : ℕ) (given : Answer) → job ≤ jobs journal → IsRightAnswer rules.traces journal job given → IsRightAnswer rules.traces (journal ++ more) job given
 right_kept rules journal more job (answer.Model values) le right =
     let keeps = longer_journal_keeps rules journal more in
     subst (λ clauses. IsModelOf clauses (cube_of (journal ++ more) job) values) (sym (keeps.clauses job le))
@@ -169,7 +168,7 @@ right_kept rules journal more job (answer.Refuted part steps) le right =
     let keeps = longer_journal_keeps rules journal more in (
       subst (λ clauses. IsRefutedPart clauses (cube_of (journal ++ more) job) part) (sym (keeps.clauses job le))
           (subst (λ cube. IsRefutedPart (clauses_of journal job) cube part) (sym (keeps.cubes job le)) right.0),
-      subst (λ (inputs : List Known). IsTrace inputs part steps) (sym (keeps.inputs job le)) right.1,
+      subst (λ (inputs : List Known). HasTrace rules.traces inputs part steps) (sym (keeps.inputs job le)) right.1,
     )
 
 -- a spent list stays one
@@ -195,7 +194,7 @@ may_decide rules before caller (event.Starved number) decision is allowed = absu
 
 -- each decision of an attempt at the job is a right answer to it
 pub decision_right : (rules : Rules) (journal : List Entry) (job : ℕ) (decision : Decision) → IsLegal rules journal → Contains (decisions journal) decision
-    → is_attempt_at journal job decision.number ≡ true → IsRightAnswer journal job (arc_value decision.given)
+    → is_attempt_at journal job decision.number ≡ true → IsRightAnswer rules.traces journal job (arc_value decision.given)
 decision_right rules journal job decision legal has own =
     let from = from_reading (λ (entry : Entry). decision_of entry.event) journal decision has in
     let was = was_allowed rules journal from.0 legal from.1 in
@@ -203,8 +202,8 @@ decision_right rules journal job decision legal has own =
     let there = job_there rules was.front decision.number may.begun was.legal may.running.found in
     let found = attempt_kept was.front was.more decision.number may.begun may.running.found in
     let same = own_job (was.front ++ was.more) job decision.number may.begun found (subst (λ all. is_attempt_at all job decision.number ≡ true) (sym was.whole) own) in
-    subst (λ all. IsRightAnswer all job (arc_value decision.given)) was.whole
-    (subst (λ n. IsRightAnswer (was.front ++ was.more) n (arc_value decision.given)) same
+    subst (λ all. IsRightAnswer rules.traces all job (arc_value decision.given)) was.whole
+    (subst (λ n. IsRightAnswer rules.traces (was.front ++ was.more) n (arc_value decision.given)) same
     (right_kept rules was.front was.more may.begun.job (arc_value decision.given) there may.right))
 
 -- the `Spent` entry that a list of the job comes from

@@ -140,9 +140,9 @@ model_on front more decision job is = by_test (is_model (arc_value decision.give
         }
 
 -- a right answer that is a model is one
-model_of : (journal : List Entry) (job : ℕ) (given : Answer) → is_model given ≡ true → IsRightAnswer journal job given → (values : List Bool) × IsModelOf (clauses_of journal job) (cube_of journal job) values
-model_of journal job (answer.Model values) is right = (values, right)
-model_of journal job (answer.Refuted part steps) is right = absurd (cc)
+model_of : (traces : Bool) (journal : List Entry) (job : ℕ) (given : Answer) → is_model given ≡ true → IsRightAnswer traces journal job given → (values : List Bool) × IsModelOf (clauses_of journal job) (cube_of journal job) values
+model_of traces journal job (answer.Model values) is right = (values, right)
+model_of traces journal job (answer.Refuted part steps) is right = absurd (cc)
 
 -- the case that stood is the verdict's cause
 cause : (rules : Rules) (front more : List Entry) (job : ℕ) (given : Verdict) → IsLegal rules (front ++ more) → standing rules front job ≡ Some given → HasCause rules (front ++ more) job given
@@ -196,7 +196,7 @@ cause rules front more job given legal is =
               first = rule;
               earlier = (let lt = there.1 in grind (arith, nat_tests));
               answered = into_reading (satisfied_by (front ++ more)) (decisions (front ++ more)) from.0 earlier has kept.stays;
-              model = model_of (front ++ more) earlier (arc_value from.0.given) kept.model
+              model = model_of rules.traces (front ++ more) earlier (arc_value from.0.given) kept.model
                   (decision_right rules (front ++ more) earlier from.0 legal has (own_kept front more earlier from.0.number kept.own));
             }))
 

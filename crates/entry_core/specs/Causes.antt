@@ -46,7 +46,8 @@ pub record IsStarved (journal : List Entry) (job : ℕ) : Type 0 where
 -- by as many attempts as it may have, each of which used up its budget on new clauses alone; by an
 -- attempt that found no memory.
 abbrev pub HasCause : Rules → List Entry → ℕ → Verdict → Type 0
-HasCause rules journal job (verdict.Answered answer) = IsRightAnswer journal job (arc_value answer)
+HasCause rules journal job (verdict.Answered answer) =
+    IsRightAnswer rules.traces journal job (arc_value answer)
 HasCause rules journal job (verdict.Cancelled by) =
     ((by ≡ 0) × Contains (cancelled journal) job) ⊎ IsOvertaken rules journal job by
 HasCause rules journal job verdict.Spent = IsUnknown rules journal job

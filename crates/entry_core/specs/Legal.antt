@@ -101,7 +101,7 @@ pub record MayDecide (rules : Rules) (before : List Entry) (caller number : ℕ)
   pub begun : Attempt
   pub running : IsRunning before caller number begun
   pub unsettled : settled rules before begun.job ≡ None
-  pub right : IsRightAnswer before begun.job given
+  pub right : IsRightAnswer rules.traces before begun.job given
 
 pub record MayStarve (rules : Rules) (before : List Entry) (caller number : ℕ) : Type 0 where
   pub begun : Attempt

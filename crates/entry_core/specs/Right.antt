@@ -1,21 +1,30 @@
 -- What an attempt may end with: a right answer, or a spent list.
-use Rattle.std.specs.Prelude.{◌≡◌, ℕ, ◌≤◌, List, length, All, AllPairs, Contains}
+use Rattle.std.specs.Prelude.{◌≡◌, ℕ, ◌≤◌, Bool, true, false, List, [], length, All, AllPairs}
+use Rattle.std.specs.Prelude.{Contains}
 use Rattle.sat_base.specs.Lit.{IsTautology, greatest_of, variables}
 use Rattle.sat_base.specs.Truth.{Entails, IsModelOf, IsRefutedPart}
+use Rattle.trace_core.specs.Known.{Known}
 use Rattle.trace_core.specs.Trace.{IsTrace}
+use Rattle.trace_core.specs.declared.derivation.Step.{Step}
 use Rattle.entry_core.specs.declared.answers.Answer.{Answer}
 use Rattle.entry_core.specs.declared.answers.Answer.TheVariants as answer
 use Rattle.entry_core.specs.declared.entries.Entry.{Entry}
 use Rattle.entry_core.specs.Journal.{inputs_of, clauses_of, cube_of}
 
--- Right answers to a job: a model of it, or a refuted part of its cube with a trace from its
--- clauses.
-abbrev pub IsRightAnswer : List Entry → ℕ → Answer → Type 0
-IsRightAnswer journal job (answer.Model values) =
+-- A refuted part has a trace from these inputs: the steps that are kept with it, or, where traces
+-- aren't kept, one of which nothing is kept.
+abbrev pub HasTrace : Bool → List Known → List ℕ → List Step → Type 0
+HasTrace true inputs part steps = IsTrace inputs part steps
+HasTrace false inputs part steps = (steps ≡ []) × (trace : List Step) × IsTrace inputs part trace
+
+-- Right answers to a job: a model of it, or a refuted part of its cube that has a trace from its
+-- clauses, which is kept or not.
+abbrev pub IsRightAnswer : Bool → List Entry → ℕ → Answer → Type 0
+IsRightAnswer traces journal job (answer.Model values) =
     IsModelOf (clauses_of journal job) (cube_of journal job) values
-IsRightAnswer journal job (answer.Refuted part steps) =
+IsRightAnswer traces journal job (answer.Refuted part steps) =
     IsRefutedPart (clauses_of journal job) (cube_of journal job) part
-    × IsTrace (inputs_of journal job) part steps
+    × HasTrace traces (inputs_of journal job) part steps
 
 -- A clause subsumes each clause that has all of its literals.
 abbrev pub Subsumes : List ℕ → List ℕ → Type 0

@@ -14,4 +14,6 @@ pub struct Rules {
     pub conflicts: u64,
     /// Whether a model cancels every later job.
     pub first: bool,
+    /// Whether each refuted part is kept with its trace.
+    pub traces: bool,
 }

@@ -51,6 +51,7 @@ fn an_entry_has_its_caller_and_event(rt: HostRuntime) -> Result<(), Fail> {
         attempts: 1,
         conflicts: 1,
         first: false,
+        traces: true,
     };
     let segment = Segment {
         clauses: Clauses::of(Vec::new(alloc)),

@@ -109,15 +109,17 @@ clauses_within board job within =
     let some = filter_within (λ (input : Known). nat_le input.tag job) (inputs board.journal) in
     omega (arith, within, some, ap greatest_of_all all)
 
-printable_answer : (trace : Bool) (journal : List Entry) (job : ℕ) (given : Answer) →
+printable_answer : (trace traces : Bool) (journal : List Entry) (job : ℕ) (given : Answer) →
     greatest_of_all (clauses_of journal job) ≤ 8388607 → IsLitSet (cube_of journal job) →
-    IsRightAnswer journal job given
+    IsRightAnswer traces journal job given
     → IsPrintable (length (inputs_of journal job)) (shown_of_answer trace given)
-printable_answer trace journal job (answer.Model values) within set right =
+printable_answer trace traces journal job (answer.Model values) within set right =
     omega (arith, right.size, within, within_set (cube_of journal job) set)
-printable_answer true journal job (answer.Refuted part steps) within set right =
+printable_answer true true journal job (answer.Refuted part steps) within set right =
     ok_cite_earlier (inputs_of journal job) steps right.1.ok
-printable_answer false journal job (answer.Refuted part steps) within set right = tt
+printable_answer true false journal job (answer.Refuted part steps) within set right =
+    subst (CiteEarlier (length (inputs_of journal job)) 0) (sym right.1) tt
+printable_answer false traces journal job (answer.Refuted part steps) within set right = tt
 
 printable_verdict : (trace : Bool) (rules : Rules) (journal : List Entry) (job : ℕ)
     (given copy : Verdict) → greatest_of_all (clauses_of journal job) ≤ 8388607 →
@@ -130,7 +132,7 @@ printable_verdict trace rules journal job (verdict.Answered one) (verdict.Answer
     cause same =
     subst (λ (given : Answer). IsPrintable (length (inputs_of journal job))
     (shown_of_answer trace given)) same
-    (printable_answer trace journal job (arc_value one) within set cause)
+    (printable_answer trace rules.traces journal job (arc_value one) within set cause)
 printable_verdict trace rules journal job (verdict.Cancelled by) (verdict.Answered other) within set
     cause same = absurd same
 printable_verdict trace rules journal job verdict.Spent (verdict.Answered other) within set cause

@@ -71,6 +71,7 @@ rules_of command = record {
   attempts = command.attempts;
   conflicts = command.conflicts;
   first = false;
+  traces = command.trace;
 }
 
 -- the options with the one that stands first among some words, and the words behind it

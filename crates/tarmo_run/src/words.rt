@@ -36,6 +36,7 @@ impl Command {
             attempts: self.attempts,
             conflicts: self.conflicts,
             first: false,
+            traces: self.trace,
         }
     }
 }

@@ -1,5 +1,5 @@
 -- The trace of a refuted part, out of the packets that were read and the session's own steps.
-use Rattle.std.proofs.Common.{◌≡◌, ◌∙◌, ℕ, ◌+◌, ◌-◌, ◌<◌, ◌≤◌, take, drop, get_or, List, [], ◌∷◌, ◌++◌, map, length, Option, Some, None, refl, ap, sym, subst, arith}
+use Rattle.std.proofs.Common.{◌≡◌, ◌∙◌, ℕ, ◌+◌, ◌-◌, ◌<◌, ◌≤◌, take, drop, get_or, List, [], ◌∷◌, ◌++◌, map, length, Option, Some, None, true, false, refl, ap, sym, subst, arith}
 use Rattle.std.specs.Prelude.{All, Contains, IsSome, option_map, option_and_then, ◌↔◌}
 use Rattle.std.proofs.lemmas.List.{length-drop, get_or-drop, take_all}
 use Rattle.std.proofs.lemmas.List.Elements.{All-contains, All-get_or}
@@ -13,6 +13,7 @@ use Rattle.trace_core.proofs.Elsewhere.{ok_elsewhere}
 use Rattle.trace_core.proofs.Items.{item_at-append, item_at-contains}
 use Rattle.trace_trim.specs.Names.{CiteEarlierSteps}
 use Rattle.trace_trim.specs.Trimmed.{IsTraceWhereOk}
+use Rattle.trace_trim.proofs.Existence.{ok_steps_have_traces}
 use Rattle.trace_trim.proofs.Zips.{item_at-map}
 use Rattle.entry_core.specs.declared.answers.Answer.TheVariants.{Refuted}
 use Rattle.entry_core.specs.declared.entries.Entry.{Entry}
@@ -96,20 +97,38 @@ looks_back bench own seen sound same =
     subst (CiteEarlierSteps (read_by bench)) (sym same)
     (ok_cite_earlier (inputs seen.journal) (read_by bench) bench.session.solver.steps (read_ok seen.rules seen.journal bench seen.legal seen.fits) (own_ok seen.journal bench seen.fits sound))
 
-traced : (bench : Bench) (cube part : List ℕ) (number : ℕ) (trimmed : List Step) → FitsLegal bench → IsSound bench.session.solver → IsRefutation bench.session.solver.inputs bench.session.solver.steps cube part number
-    → IsTraceWhereOk (read_by bench) bench.session.solver.steps number trimmed → IsTrace bench.session.solver.inputs part trimmed
-traced bench cube part number trimmed seen sound r where_ok =
+-- What holds of the refuting step wherever the session's steps are ok, holds over the session's
+-- inputs.
+at_refutation : (bench : Bench) (cube part : List ℕ) (number : ℕ) (P : Type 0) → FitsLegal bench → IsSound bench.session.solver
+    → IsRefutation bench.session.solver.inputs bench.session.solver.steps cube part number
+    → ((all : List Known) (step : Step) → AreOkPackets all [] (read_by bench) → AreOkSteps all (made_known (read_by bench)) [] bench.session.solver.steps → item_at bench.session.solver.steps number ≡ Some step
+    → AgreeUpTo step.tag all bench.session.solver.inputs → ((lit : ℕ) → Contains step.clause lit ↔ Contains part (opposite lit)) → P) → P
+at_refutation bench cube part number P seen sound r holds =
     let solver : Solver = bench.session.solver in
     let there = step_there solver.steps number r.one r.step in
     let clause : there.0.clause ≡ r.one.clause = ap (λ (one : Known). one.clause) there.2 in
     let low = All-contains (λ (step : Step). step.tag ≤ solver.bound) solver.steps there.0 (own_bounded bench seen sound) (item_at-contains solver.steps number there.0 there.1) in
     let agree : AgreeUpTo there.0.tag (inputs seen.journal) solver.inputs = λ place one is tag.
     ap (λ (all : List Known). item_at all place) seen.fits.inputs ∙ inputs_of_agree seen.journal solver.bound place one is (omega (arith, low, tag)) in
-    where_ok (inputs seen.journal) solver.inputs part there.0 (read_ok seen.rules seen.journal bench seen.legal seen.fits) (own_ok seen.journal bench seen.fits sound) there.1 agree
+    holds (inputs seen.journal) there.0 (read_ok seen.rules seen.journal bench seen.legal seen.fits) (own_ok seen.journal bench seen.fits sound) there.1 agree
     (λ lit. subst (λ lits. Contains lits lit ↔ Contains part (opposite lit)) (sym clause) (r.negates lit))
 
+traced : (bench : Bench) (cube part : List ℕ) (number : ℕ) (trimmed : List Step) → FitsLegal bench → IsSound bench.session.solver → IsRefutation bench.session.solver.inputs bench.session.solver.steps cube part number
+    → IsTraceWhereOk (read_by bench) bench.session.solver.steps number trimmed → IsTrace bench.session.solver.inputs part trimmed
+traced bench cube part number trimmed seen sound r where_ok =
+    at_refutation bench cube part number (IsTrace bench.session.solver.inputs part trimmed) seen sound r
+    (λ all step packets own is agree negated. where_ok all bench.session.solver.inputs part step packets own is agree negated)
+
+-- Of a refuted part there is a trace, though none is made.
+pub untraced : (bench : Bench) (cube part : List ℕ) (number : ℕ) (steps : List Step) → FitsLegal bench → IsSound bench.session.solver → steps ≡ []
+    → IsRefutation bench.session.solver.inputs bench.session.solver.steps cube part number → IsRightOver false bench.session.solver.inputs cube (Refuted part steps)
+untraced bench cube part number steps seen sound none r =
+    let trace = at_refutation bench cube part number ((trace : List Step) × IsTrace bench.session.solver.inputs part trace) seen sound r
+    (λ all step packets own is agree negated. ok_steps_have_traces all bench.session.solver.inputs (read_by bench) bench.session.solver.steps number step part packets own is agree negated) in
+    (r.right, (none, trace.0, trace.1))
+
 pub refuted : (bench : Bench) (cube part : List ℕ) (number : ℕ) (own trimmed steps : List Step) → FitsLegal bench → IsSound bench.session.solver → own ≡ bench.session.solver.steps → steps ≡ trimmed
-    → IsRefutation bench.session.solver.inputs bench.session.solver.steps cube part number → IsTraceWhereOk (read_by bench) own number trimmed → IsRightOver bench.session.solver.inputs cube (Refuted part steps)
+    → IsRefutation bench.session.solver.inputs bench.session.solver.steps cube part number → IsTraceWhereOk (read_by bench) own number trimmed → IsRightOver true bench.session.solver.inputs cube (Refuted part steps)
 refuted bench cube part number own trimmed steps seen sound is same r where_ok = (
   r.right,
   subst (λ (xs : List Step). IsTrace bench.session.solver.inputs part xs) (sym same)

@@ -1,6 +1,7 @@
 //! Attempts.
 
-ghost use Rattle.std.specs.Prelude.{◌≡◌, ◌<◌, ◌≤◌, None, length, List, IfOk, IfSome, OnOk};
+ghost use Rattle.std.specs.Prelude.{◌≡◌, ◌<◌, ◌≤◌, Bool, false, true, None, length, List, IfOk};
+ghost use Rattle.std.specs.Prelude.{IfSome, OnOk};
 ghost use Rattle.entry_core.specs.declared.entries.Entry.{Entry};
 ghost use Rattle.session.specs.declared.rounds.Round.TheVariants.{Paused};
 ghost use Rattle.session.specs.Refutations.{IsRefutation};
@@ -22,17 +23,20 @@ use std::sync::Arc;
 use trace_core::Steps;
 use trace_trim::trim;
 
-/// Rounds until the attempt has its answer, or has learnt as many clauses as the budget allows.
+/// Rounds until the attempt has its answer, with its trace where traces are kept, or has learnt as
+/// many clauses as the budget allows.
 pub(crate) fn pursue(
     alloc: Global,
     bench: &mut Bench,
     attempt: &mut Attempt,
     budget: u64,
+    traces: bool,
 ) -> Result<End, AllocError>
     requires left { length attempt.old.learnt.items < budget }
     requires fits { FitsLegal bench.old }
     requires learnt { AreLearnt bench.old.session.solver attempt.old.cube attempt.old.learnt.items }
-    ensures end { IfOk result (IsEndOver bench.old.session.solver.inputs attempt.old.cube budget) }
+    ensures end { IfOk result
+        (IsEndOver traces bench.old.session.solver.inputs attempt.old.cube budget) }
     ensures learnt { OnOk result (HasLearntOn
         bench.old.session.solver bench.new.session.solver attempt.old attempt.new budget) }
     ensures spent { IfOk result (IsOfLearnt bench.new.session.solver attempt.new) }
@@ -44,20 +48,22 @@ pub(crate) fn pursue(
 {
     'rounds: loop {
         let round = make_round(bench, attempt, budget)?;
-        match end_of(alloc, bench, attempt, budget, round)? {
+        match end_of(alloc, bench, attempt, budget, traces, round)? {
             Some(end) => return Ok(end),
             None => {}
         }
     }
 }
 
-/// The end of an attempt after a round, none where it goes on: an answer with its trace, or
-/// copies of exactly the clauses that it learnt, where these are as many as the budget allows.
+/// The end of an attempt after a round, none where it goes on: an answer, with its trace where
+/// traces are kept, or copies of exactly the clauses that it learnt, where these are as many as the
+/// budget allows.
 pub(crate) fn end_of(
     alloc: Global,
     bench: &Bench,
     attempt: &Attempt,
     budget: u64,
+    traces: bool,
     round: Round,
 ) -> Result<Option<End>, AllocError>
     requires fits { FitsLegal bench.now }
@@ -65,7 +71,8 @@ pub(crate) fn end_of(
     requires few { length attempt.now.learnt.items ≤ budget }
     requires right { IsRightRound bench.now.session.solver attempt.now.cube round }
     ensures end { IfOk result
-        (λ end. IfSome end (IsEndOver bench.now.session.solver.inputs attempt.now.cube budget)) }
+        (λ end. IfSome end
+        (IsEndOver traces bench.now.session.solver.inputs attempt.now.cube budget)) }
     ensures learnt { IfOk result
         (λ end. IfSome end (IsOfLearnt bench.now.session.solver attempt.now)) }
     ensures goes_on { IfOk result (λ end. end ≡ None → length attempt.now.learnt.items < budget) }
@@ -77,8 +84,8 @@ pub(crate) fn end_of(
             Ok(Some(End::Answered(answer)))
         }
         Round::Refuted(part, number) => {
-            let answer = Arc::new(alloc, traced(alloc, bench, &attempt.cube, part, number)?)?;
-            Ok(Some(End::Answered(answer)))
+            let answer = refutation(alloc, bench, &attempt.cube, part, number, traces)?;
+            Ok(Some(End::Answered(Arc::new(alloc, answer)?)))
         }
         Round::Paused => spent(alloc, bench, attempt, budget),
     }
@@ -94,8 +101,9 @@ fn spent(
 ) -> Result<Option<End>, AllocError>
     requires learnt { AreLearnt bench.now.session.solver attempt.now.cube attempt.now.learnt.items }
     requires few { length attempt.now.learnt.items ≤ budget }
-    ensures end { IfOk result
-        (λ end. IfSome end (IsEndOver bench.now.session.solver.inputs attempt.now.cube budget)) }
+    ensures end { (traces : Bool) → IfOk result
+        (λ end. IfSome end
+        (IsEndOver traces bench.now.session.solver.inputs attempt.now.cube budget)) }
     ensures learnt { IfOk result
         (λ end. IfSome end (IsOfLearnt bench.now.session.solver attempt.now)) }
     ensures goes_on { IfOk result (λ end. end ≡ None → length attempt.now.learnt.items < budget) }
@@ -105,6 +113,26 @@ fn spent(
     }
     let copies = copies_of(alloc, bench.session.steps(), &attempt.learnt)?;
     Ok(Some(End::Spent(Arc::new(alloc, copies)?)))
+}
+
+// The refuted part, with its trace where traces are kept.
+fn refutation(
+    alloc: Global,
+    bench: &Bench,
+    cube: &Cube,
+    part: Cube,
+    number: u64,
+    traces: bool,
+) -> Result<Answer, AllocError>
+    requires fits { FitsLegal bench.now }
+    requires refuted { IsRefutation bench.now.session.solver.inputs
+        bench.now.session.solver.steps cube.now part number }
+    ensures { IfOk result (IsRightOver traces bench.now.session.solver.inputs cube.now) }
+{
+    if traces {
+        return traced(alloc, bench, cube, part, number);
+    }
+    Ok(untraced(alloc, bench, cube, part, number))
 }
 
 // The refuted part with its trace: what the own step of its negation rests on, out of the packets
@@ -120,8 +148,21 @@ fn traced(
     requires fits { FitsLegal bench.now }
     requires refuted { IsRefutation bench.now.session.solver.inputs
         bench.now.session.solver.steps cube.now part number }
-    ensures { IfOk result (IsRightOver bench.now.session.solver.inputs cube.now) }
+    ensures { IfOk result (IsRightOver true bench.now.session.solver.inputs cube.now) }
 {
     let steps = trim(alloc, &bench.packets, bench.session.steps(), number)?;
     Ok(Answer::Refuted(part, Steps::of(steps)))
+}
+
+// The refuted part without its trace, which exists since the session's own steps are ok: nothing is
+// trimmed and nothing is kept.
+fn untraced(alloc: Global, bench: &Bench, cube: &Cube, part: Cube, number: u64) -> Answer
+    requires fits { FitsLegal bench.now }
+    requires refuted { IsRefutation bench.now.session.solver.inputs
+        bench.now.session.solver.steps cube.now part number }
+    ensures { IsRightOver false bench.now.session.solver.inputs cube.now result }
+{
+    // What every session keeps is told with its steps.
+    let _ = bench.session.steps();
+    Answer::Refuted(part, Steps::of(Vec::new(alloc)))
 }

@@ -54,7 +54,7 @@ fn pursue_job(
     requires fits { Fits bench.old board.now.journal }
     ensures fits { OnOk result (Fits bench.new board.now.journal) }
     ensures bound { OnOk result (bench.new.session.solver.bound ≡ job) }
-    ensures end { IfOk result (IsEnd board.now.journal job board.now.rules.conflicts) }
+    ensures end { IfOk result (IsEnd board.now.rules board.now.journal job) }
     ensures kept { bench.old.session.solver.bound ≤ job
         → KeepsLearnt bench.old.session.solver bench.new.session.solver }
 {
@@ -69,7 +69,8 @@ fn pursue_job(
     };
     // A legal journal keeps the packets ok, and the rules allow a clause at least.
     let _ = board.journal();
-    pursue(alloc, bench, &mut attempt, board.rules().conflicts)
+    let rules = board.rules();
+    pursue(alloc, bench, &mut attempt, rules.conflicts, rules.traces)
 }
 
 /// Ends an attempt in this way, or as starved where there is no end, and drops it where its job
@@ -78,7 +79,7 @@ fn pursue_job(
 pub(crate) fn end_attempt(board: &mut Board, caller: u32, number: u32, end: Option<End>)
     requires own { IsOwn board.old caller number }
     requires right { IfSome end
-        (IsEnd board.old.journal (job_at board.old number) board.old.rules.conflicts) }
+        (IsEnd board.old.rules board.old.journal (job_at board.old number)) }
     ensures { EndsBy board.old board.new caller number (event_of number end) }
 {
     if write_end(board, caller, number, end).is_err() {
@@ -90,7 +91,7 @@ pub(crate) fn end_attempt(board: &mut Board, caller: u32, number: u32, end: Opti
 fn write_end(board: &mut Board, caller: u32, number: u32, end: Option<End>) -> Result<(), Late>
     requires own { IsOwn board.old caller number }
     requires right { IfSome end
-        (IsEnd board.old.journal (job_at board.old number) board.old.rules.conflicts) }
+        (IsEnd board.old.rules board.old.journal (job_at board.old number)) }
     ensures ok { OnOk result (board.new ≡ entered board.old caller (event_of number end)) }
     ensures late { OnErr result
         (IsSome (settled board.old.rules board.old.journal (job_at board.old number))) }

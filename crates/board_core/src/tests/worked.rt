@@ -70,6 +70,7 @@ fn added(alloc: Global, rt: &impl Abort) -> Result<Board, AllocError>
         attempts: 1,
         conflicts: 1,
         first: false,
+        traces: true,
     };
     let mut board = Board::new(alloc, rules)?;
     match board.add(1, job(alloc, rt)?) {

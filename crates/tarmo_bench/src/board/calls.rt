@@ -17,6 +17,7 @@ pub(crate) fn board(alloc: Global) -> Result<Board, AllocError> {
             attempts: 1,
             conflicts: 1,
             first: false,
+            traces: true,
         },
     )
 }

@@ -11,7 +11,7 @@ copies_of-requires c =
     numbers_there c.args.bench.now.session.solver c.steps.result.now c.args.attempt.now.learnt.items c.deref.result.now c.steps.ensures.value c.deref.ensures.value c.requires.learnt.held
 
 pub returns-clause-end : goal.returns-clause-end
-returns-clause-end c =
+returns-clause-end c = λ traces.
     spent_list c.args.bench.now.session.solver c.args.attempt.now.cube c.args.attempt.now.learnt.items c.args.budget (arc_value c.in_ok-new.field-0) c.requires.learnt
     (omega (arith, c.requires.few, c.if-len-budget.false, c.len.ensures))
     (c.in_ok-new.ensures.ok ∙ c.in_ok-copies.ensures ∙ ap (λ (steps : List Step). clauses_at steps c.deref.result.now) c.steps.ensures.value

@@ -11,9 +11,9 @@ use Rattle.worker_loop.proofs.ending.pursue_job.Goals as goal
 
 pub returns-clause-end : goal.returns-clause-end
 returns-clause-end c =
-    subst (λ (r : Rules). IfOk c.pursue.result (IsEnd c.args.board.now.journal c.args.job r.conflicts)) c.rules.ensures.value
-    (IfOk-weaker c.pursue.result (IsEndOver c.bring_to.new.bench.session.solver.inputs c.in_ok-cube.cube c.rules.result.now.conflicts) (IsEnd c.args.board.now.journal c.args.job c.rules.result.now.conflicts)
-    (λ end is. end_for_job c.args.board.now.journal c.bring_to.new.bench.session.solver.inputs c.in_ok-cube.cube c.args.job c.rules.result.now.conflicts end
+    subst (λ (r : Rules). IfOk c.pursue.result (IsEnd r c.args.board.now.journal c.args.job)) c.rules-rules.ensures.value
+    (IfOk-weaker c.pursue.result (IsEndOver c.rules-rules.result.now.traces c.bring_to.new.bench.session.solver.inputs c.in_ok-cube.cube c.rules-rules.result.now.conflicts) (IsEnd c.rules-rules.result.now c.args.board.now.journal c.args.job)
+    (λ end is. end_for_job c.rules-rules.result.now c.args.board.now.journal c.bring_to.new.bench.session.solver.inputs c.in_ok-cube.cube c.args.job end
     (c.in_ok-bring_to.ensures.fits.inputs ∙ ap (inputs_of c.args.board.now.journal) c.in_ok-bring_to.ensures.bound)
     (c.in_ok-cube.ensures ∙ ap (λ (s : Segment). s.cube) c.deref.ensures ∙ sym (ap cube_in c.in_ok-segment.ensures)) is)
     c.pursue.ensures.end)

@@ -38,7 +38,7 @@ pub invariant_of-self : goal.invariant_of-self
 invariant_of-self c =
     let r = ready c.self.view_is c.self.invariant c.requires.own c.attempted-own.ensures in
     let right = inside_out r
-    (λ (board : State) job. IsRightAnswer board.journal job (arc_value c.args.answer))
+    (λ (board : State) job. IsRightAnswer board.rules.traces board.journal job (arc_value c.args.answer))
     c.requires.right in
     kept_with c.self.inside 1 c.end.ensures.rest
     (kept_decided c.self.inside c.push_reserved.new.self c.end.new.self.jobs c.end.new.self.waiting
