@@ -32,6 +32,7 @@ use Rattle.verdict_text.specs.declared.blocks.Shown.{Shown}
 use Rattle.tarmo_run.specs.Block.{AreBlocks, IsBlockOf}
 use Rattle.tarmo_run.specs.Client.{AreWithinVariables, clauses_behind, clauses_on}
 use Rattle.tarmo_run.specs.Writer.{TookBlocks, TookFront}
+use Rattle.trace_text.specs.Text.{CiteEarlier}
 use Rattle.tarmo_run.proofs.Cited.{ok_cite_earlier}
 use Rattle.tarmo_run.proofs.Queries.{tagged_clauses}
 use Rattle.tarmo_run.proofs.Variables.{within_set}
@@ -118,7 +119,7 @@ printable_answer trace traces journal job (answer.Model values) within set right
 printable_answer true true journal job (answer.Refuted part steps) within set right =
     ok_cite_earlier (inputs_of journal job) steps right.1.ok
 printable_answer true false journal job (answer.Refuted part steps) within set right =
-    subst (CiteEarlier (length (inputs_of journal job)) 0) (sym right.1) tt
+    subst (CiteEarlier (length (inputs_of journal job)) 0) (sym right.1.0) tt
 printable_answer false traces journal job (answer.Refuted part steps) within set right = tt
 
 printable_verdict : (trace : Bool) (rules : Rules) (journal : List Entry) (job : ℕ)
