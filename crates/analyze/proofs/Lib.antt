@@ -15,3 +15,4 @@ pub mod Justified
 pub mod Collected
 pub mod Blamed
 pub mod Excluded
+pub mod Decided

@@ -6,3 +6,4 @@ pub mod Seen
 pub mod FirstUip
 pub mod Cut
 pub mod Naming
+pub mod Conflict

@@ -15,6 +15,8 @@ mod nodes;
 mod refuting;
 mod scratch;
 mod seen;
+#[cfg(test)]
+mod tests;
 
 pub use learning::{Learnt, learn};
 pub use refuting::refute;

@@ -148,6 +148,7 @@ fn both_literals(alloc: Global, lit: Lit) -> Result<Vec<Lit>, AllocError>
         (λ lits. lits.items ≡ (2 * variable lit) ∷ (2 * variable lit + 1) ∷ []) }
     ensures above { 0 < variable lit }
 {
+    // Brings that the number is a literal's, so its variable is above 0.
     let _ = lit.var();
     let mut lits = Vec::new(alloc);
     if lit.is_negative() {

@@ -90,6 +90,7 @@ fn pass(arena: &Arena, trail: &mut Trail) -> Progress
     for id in 0..arena.len() {
         match judge(arena.lits(id), trail) {
             Judgement::False => {
+                // Brings `IsTrail` of the trail at this exit.
                 let _ = trail.depth();
                 return Progress::Refuted(id);
             }
@@ -180,6 +181,7 @@ mod tests {
         ensures trail { trail.new.vars ≡ 6 }
         ensures known { IfSome result (λ id. id < length store.new.clauses) }
     {
+        // Brings that the clauses have reserved variables only, and so has the trail.
         let _ = store.arena();
         let _ = trail.depth();
         propagate(store, trail)

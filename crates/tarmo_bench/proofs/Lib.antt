@@ -1,2 +1,1 @@
-mod Decided
 mod Earlier

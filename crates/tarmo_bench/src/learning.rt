@@ -6,40 +6,12 @@
 
 mod instance;
 mod search;
-#[cfg(test)]
-mod tests;
-mod units;
 
-use crate::learning::instance::{Row, conflict_after, learn_once};
+use crate::learning::instance::{learn_once, prepare};
 use analyze::Scratch;
 use anyhow::{Context, Result, ensure};
 use sat_base::limits::GREATEST_VARIABLE;
-use std::alloc::{AllocError, Global};
 use std::time::CpuClock;
-
-const PIGEONS: [Row; 9] = [
-    (&[1, 2], 1),
-    (&[3, 4], 1),
-    (&[5, 6], 1),
-    (&[-1, -3], 1),
-    (&[-1, -5], 1),
-    (&[-3, -5], 1),
-    (&[-2, -4], 1),
-    (&[-2, -6], 1),
-    (&[-4, -6], 1),
-];
-
-// The pigeons, and variables that are true from the start.
-fn rows<'a>(alloc: Global, units: &'a [[i32; 1]]) -> Result<Vec<Row<'a>>, AllocError> {
-    let mut rows: Vec<Row<'a>> = Vec::new(alloc);
-    for row in &PIGEONS {
-        rows.push(*row)?;
-    }
-    for unit in units {
-        rows.push((unit.as_slice(), 1))?;
-    }
-    Ok(rows)
-}
 
 /// Learns so often from a text of so many variables, and tells the processor time of the calls.
 pub(crate) fn measure(rt: &HostRuntime, vars: Option<u32>, calls: Option<u32>) -> Result<()> {
@@ -52,12 +24,7 @@ pub(crate) fn measure(rt: &HostRuntime, vars: Option<u32>, calls: Option<u32>) -
     );
 
     let alloc = rt.alloc();
-    let mut units = Vec::new(alloc);
-    for var in 7..=vars {
-        units.push([var as i32])?;
-    }
-    let rows = rows(alloc, &units)?;
-    let conflict = conflict_after(alloc, vars, &rows, &[1])?.context("no conflict")?;
+    let conflict = prepare(alloc, vars)?.context("no conflict")?;
     let mut scratch = Scratch::new(alloc);
     scratch.reserve(vars)?;
     let mut hints = 0u64;

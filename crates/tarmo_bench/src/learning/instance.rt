@@ -1,38 +1,38 @@
-//! A text, and what is learnt after some decisions.
+//! A text, its conflict, and what that teaches.
 
 ghost use Rattle.std.specs.Prelude.{◌≡◌, ◌≤◌, IfOk, IfSome, IsTrue};
+ghost use Rattle.sat_base.specs.Limits.{greatest_variable};
 ghost use Rattle.propagate.specs.Store.{AreWithin};
 ghost use Rattle.tarmo_bench.specs.Prepared.{IsPrepared};
 
-use crate::learning::search::{begin, search};
-use crate::learning::units::Units;
+use crate::learning::search::conflict_of;
 use analyze::{Learnt, Scratch, learn};
 use propagate::Store;
 use sat_base::{Clause, Lit, Ref};
 use std::alloc::{AllocError, Global};
 use trail_core::Trail;
 
-/// A clause by its numbers, and its tag.
-pub type Row<'a> = (&'a [i32], u32);
+// Three pigeons in two holes.
+const PIGEONS: [[i32; 2]; 9] = [
+    [1, 2],
+    [3, 4],
+    [5, 6],
+    [-1, -3],
+    [-1, -5],
+    [-3, -5],
+    [-2, -4],
+    [-2, -6],
+    [-4, -6],
+];
 
-/// A false clause of a text after some decisions, and what an analysis reads.
+/// A false clause above level 0, and what an analysis reads.
 #[derive(Debug, Drop)]
 pub struct Conflict {
     store: Store,
     trail: Trail,
-    units: Units,
+    names: Vec<Ref>,
+    tags: Vec<u32>,
     id: usize,
-}
-
-// The literals that these numbers write; others are passed over.
-pub fn literals(alloc: Global, numbers: &[i32]) -> Result<Vec<Lit>, AllocError> {
-    let mut lits = Vec::new(alloc);
-    for number in numbers {
-        if let Some(lit) = Lit::of(*number) {
-            lits.push(lit)?;
-        }
-    }
-    Ok(lits)
 }
 
 fn is_within(clause: &Clause, vars: u32) -> bool
@@ -41,47 +41,69 @@ fn is_within(clause: &Clause, vars: u32) -> bool
     clause.lits().iter().all(|lit| lit.var() <= vars)
 }
 
-// A store of the rows, the i-th of which is `Input(i)`. Rows with other variables are left out.
-pub fn load(alloc: Global, vars: u32, rows: &[Row]) -> Result<Store, AllocError>
+// Adds the clause of these numbers under this name, if its variables are reserved.
+fn add(
+    alloc: Global,
+    vars: u32,
+    store: &mut Store,
+    numbers: &[i32],
+    name: Ref,
+) -> Result<(), AllocError>
+    requires { store.old.vars ≡ vars }
+    ensures { store.new.vars ≡ vars }
+{
+    let mut lits = Vec::new(alloc);
+    for number in numbers {
+        if let Some(lit) = Lit::of(*number) {
+            lits.push(lit)?;
+        }
+    }
+    let clause = Clause::from_lits(alloc, &lits)?;
+    if is_within(&clause, vars) {
+        store.add(&clause, 1, name)?;
+    }
+    Ok(())
+}
+
+// The pigeons, and a clause of one literal for each further variable.
+fn load(alloc: Global, vars: u32) -> Result<Store, AllocError>
+    requires { vars ≤ greatest_variable }
     ensures { IfOk result (λ store. store.vars ≡ vars) }
 {
     let mut store = Store::new(alloc);
     store.reserve(vars)?;
     let mut number = 0u32;
-    for (numbers, tag) in rows {
+    for pair in &PIGEONS {
         number = number.saturating_add(1);
-        let clause = Clause::from_lits(alloc, &literals(alloc, numbers)?)?;
-        if is_within(&clause, vars) {
-            store.add(&clause, *tag, Ref::Input(number))?;
-        }
+        add(alloc, vars, &mut store, pair.as_slice(), Ref::Input(number))?;
+    }
+    for var in 7..=vars {
+        number = number.saturating_add(1);
+        add(alloc, vars, &mut store, &[var as i32], Ref::Input(number))?;
     }
     Ok(store)
 }
 
-/// The first conflict that these decisions lead to, in turn, if there is one above level 0.
-pub fn conflict_after(
-    alloc: Global,
-    vars: u32,
-    rows: &[Row],
-    decisions: &[i32],
-) -> Result<Option<Conflict>, AllocError>
+/// The conflict of the pigeons after the first one is put into the first hole. No clause of theirs
+/// has a variable of level 0, so an analysis reads no name of a unit clause, and all are the same.
+pub fn prepare(alloc: Global, vars: u32) -> Result<Option<Conflict>, AllocError>
+    requires { vars ≤ greatest_variable }
     ensures { IfOk result (λ found. IfSome found (λ conflict. IsPrepared conflict vars)) }
 {
-    let mut store = load(alloc, vars, rows)?;
+    let mut store = load(alloc, vars)?;
     let mut trail = Trail::new(alloc);
     trail.reserve(vars)?;
-    if !begin(&mut store, &mut trail) {
+    let Some(first) = Lit::of(1) else {
         return Ok(None);
-    }
-    let units = Units::of(alloc, vars, store.arena(), &trail)?;
-    let decisions = literals(alloc, decisions)?;
-    let Some(id) = search(&mut store, &mut trail, vars, &decisions) else {
+    };
+    let Some(id) = conflict_of(&mut store, &mut trail, vars, first) else {
         return Ok(None);
     };
     Ok(Some(Conflict {
         store,
         trail,
-        units,
+        names: vec![in alloc; Ref::Input(0); vars as usize]?,
+        tags: vec![in alloc; 0u32; vars as usize]?,
         id,
     }))
 }
@@ -101,8 +123,8 @@ pub fn learn_once(
         alloc,
         scratch,
         conflict.store.arena(),
-        &conflict.units.names,
-        &conflict.units.tags,
+        &conflict.names,
+        &conflict.tags,
         &conflict.trail,
         conflict.id,
     )

@@ -14,7 +14,29 @@ use Rattle.analyze.proofs.ToFirstUip.{resolved_start, under_way_start}
 use Rattle.analyze.proofs.Taught.{Taught, IsClauseOf, all_within, met_within, all_clauses, refuted_clause, asserting_clause}
 use Rattle.analyze.proofs.New.{new_clause}
 use Rattle.analyze.proofs.Justified.{learnt_by}
+use Rattle.analyze.proofs.learning.derive.Goals.{After-deref, After-copy}
 use Rattle.analyze.proofs.learning.derive.Goals as goal
+
+-- what holds once the literals are classified
+taught : (c : After-deref) → Taught c.args.trail.now c.args.arena.now c.args.conflict c.in_ok-point.point
+    c.first_uip.new.analyzed.items c.classify.new.analyzed.items c.in_ok-parts.parts.kept.items
+    c.in_ok-parts.parts.resolved.items
+taught c = record {
+  is = c.analyze_clause.ensures.trail;
+  founded = c.requires.founded;
+  deep = c.requires.deep;
+  complete = c.requires.complete;
+  known = c.requires.known;
+  refuted = c.requires.refuted;
+  first_uip = c.in_ok-point.ensures.resolved_from;
+  at = c.in_ok-point.ensures.point;
+  cut = c.in_ok-parts.ensures.cut;
+  sorted = c.in_ok-parts.ensures.ascending;
+}
+
+-- the literals of the clause
+clause_members : (c : After-copy) → IsClauseOf c.in_ok-clause.clause (lit_at c.args.trail.now.entries) c.in_ok-parts.parts.kept.items
+clause_members c = subst (IsClauseOf c.in_ok-clause.clause (lit_at c.args.trail.now.entries)) c.deref.ensures.value c.in_ok-clause.ensures
 
 pub first_uip-requires-clause-resolved_from : goal.first_uip-requires-clause-resolved_from
 first_uip-requires-clause-resolved_from c =
@@ -45,20 +67,7 @@ first_uip-requires-clause-under_way c =
 
 pub clause_of-requires : goal.clause_of-requires
 clause_of-requires c =
-    let t : Taught c.args.trail.now c.args.arena.now c.args.conflict c.in_ok-point.point
-    c.first_uip.new.analyzed.items c.classify.new.analyzed.items c.in_ok-parts.parts.kept.items
-    c.in_ok-parts.parts.resolved.items = record {
-      is = c.analyze_clause.ensures.trail;
-      founded = c.requires.founded;
-      deep = c.requires.deep;
-      complete = c.requires.complete;
-      known = c.requires.known;
-      refuted = c.requires.refuted;
-      first_uip = c.in_ok-point.ensures.resolved_from;
-      at = c.in_ok-point.ensures.point;
-      cut = c.in_ok-parts.ensures.cut;
-      sorted = c.in_ok-parts.ensures.ascending;
-    } in
+    let t = taught (goal.at.clause_of-requires c).After-deref in
     subst (λ (xs : List ℕ). All (λ place. place < length c.args.trail.now.entries) xs) (sym c.deref.ensures.value)
     (all_within c.args.trail.now c.args.arena.now c.args.conflict c.in_ok-point.point
     c.first_uip.new.analyzed.items c.classify.new.analyzed.items c.in_ok-parts.parts.kept.items
@@ -66,20 +75,7 @@ clause_of-requires c =
 
 pub cite_all-requires-clause-clauses : goal.cite_all-requires-clause-clauses
 cite_all-requires-clause-clauses c =
-    let t : Taught c.args.trail.now c.args.arena.now c.args.conflict c.in_ok-point.point
-    c.first_uip.new.analyzed.items c.classify.new.analyzed.items c.in_ok-parts.parts.kept.items
-    c.in_ok-parts.parts.resolved.items = record {
-      is = c.analyze_clause.ensures.trail;
-      founded = c.requires.founded;
-      deep = c.requires.deep;
-      complete = c.requires.complete;
-      known = c.requires.known;
-      refuted = c.requires.refuted;
-      first_uip = c.in_ok-point.ensures.resolved_from;
-      at = c.in_ok-point.ensures.point;
-      cut = c.in_ok-parts.ensures.cut;
-      sorted = c.in_ok-parts.ensures.ascending;
-    } in
+    let t = taught (goal.at.cite_all-requires-clause-clauses c).After-deref in
     subst (All (HasClause c.args.arena.now c.args.trail.now.entries)) (sym c.deref-2.ensures.value)
     (all_clauses c.args.trail.now c.args.arena.now c.args.conflict c.in_ok-point.point
     c.first_uip.new.analyzed.items c.classify.new.analyzed.items c.in_ok-parts.parts.kept.items
@@ -87,20 +83,7 @@ cite_all-requires-clause-clauses c =
 
 pub highest_level-requires : goal.highest_level-requires
 highest_level-requires c =
-    let t : Taught c.args.trail.now c.args.arena.now c.args.conflict c.in_ok-point.point
-    c.first_uip.new.analyzed.items c.classify.new.analyzed.items c.in_ok-parts.parts.kept.items
-    c.in_ok-parts.parts.resolved.items = record {
-      is = c.analyze_clause.ensures.trail;
-      founded = c.requires.founded;
-      deep = c.requires.deep;
-      complete = c.requires.complete;
-      known = c.requires.known;
-      refuted = c.requires.refuted;
-      first_uip = c.in_ok-point.ensures.resolved_from;
-      at = c.in_ok-point.ensures.point;
-      cut = c.in_ok-parts.ensures.cut;
-      sorted = c.in_ok-parts.ensures.ascending;
-    } in
+    let t = taught (goal.at.highest_level-requires c).After-deref in
     subst (λ (xs : List ℕ). All (λ place. place < length c.args.trail.now.entries) xs) (sym c.deref-3.ensures.value)
     (all_within c.args.trail.now c.args.arena.now c.args.conflict c.in_ok-point.point
     c.first_uip.new.analyzed.items c.classify.new.analyzed.items c.in_ok-parts.parts.kept.items
@@ -108,20 +91,7 @@ highest_level-requires c =
 
 pub variables_of-requires : goal.variables_of-requires
 variables_of-requires c =
-    let t : Taught c.args.trail.now c.args.arena.now c.args.conflict c.in_ok-point.point
-    c.first_uip.new.analyzed.items c.classify.new.analyzed.items c.in_ok-parts.parts.kept.items
-    c.in_ok-parts.parts.resolved.items = record {
-      is = c.analyze_clause.ensures.trail;
-      founded = c.requires.founded;
-      deep = c.requires.deep;
-      complete = c.requires.complete;
-      known = c.requires.known;
-      refuted = c.requires.refuted;
-      first_uip = c.in_ok-point.ensures.resolved_from;
-      at = c.in_ok-point.ensures.point;
-      cut = c.in_ok-parts.ensures.cut;
-      sorted = c.in_ok-parts.ensures.ascending;
-    } in
+    let t = taught (goal.at.variables_of-requires c).After-deref in
     subst (λ (xs : List ℕ). All (λ place. place < length c.args.trail.now.entries) xs) (sym c.deref-4.ensures.value)
     (met_within c.args.trail.now c.args.arena.now c.args.conflict c.in_ok-point.point
     c.first_uip.new.analyzed.items c.classify.new.analyzed.items c.in_ok-parts.parts.kept.items
@@ -129,22 +99,8 @@ variables_of-requires c =
 
 pub returns-clause-refuted : goal.returns-clause-refuted
 returns-clause-refuted c =
-    let t : Taught c.args.trail.now c.args.arena.now c.args.conflict c.in_ok-point.point
-    c.first_uip.new.analyzed.items c.classify.new.analyzed.items c.in_ok-parts.parts.kept.items
-    c.in_ok-parts.parts.resolved.items = record {
-      is = c.analyze_clause.ensures.trail;
-      founded = c.requires.founded;
-      deep = c.requires.deep;
-      complete = c.requires.complete;
-      known = c.requires.known;
-      refuted = c.requires.refuted;
-      first_uip = c.in_ok-point.ensures.resolved_from;
-      at = c.in_ok-point.ensures.point;
-      cut = c.in_ok-parts.ensures.cut;
-      sorted = c.in_ok-parts.ensures.ascending;
-    } in
-    let members : IsClauseOf c.in_ok-clause.clause (lit_at c.args.trail.now.entries) c.in_ok-parts.parts.kept.items =
-    subst (IsClauseOf c.in_ok-clause.clause (lit_at c.args.trail.now.entries)) c.deref.ensures.value c.in_ok-clause.ensures in
+    let t = taught (goal.at.returns-clause-refuted c).After-deref in
+    let members = clause_members (goal.at.returns-clause-refuted c).After-copy in
     subst (IsFalseClause (lits_of c.args.trail.now.entries)) (sym c.in_ok-copy.ensures)
     (refuted_clause c.args.trail.now c.args.arena.now c.args.conflict c.in_ok-point.point
     c.first_uip.new.analyzed.items c.classify.new.analyzed.items c.in_ok-parts.parts.kept.items
@@ -152,22 +108,8 @@ returns-clause-refuted c =
 
 pub returns-clause-asserting : goal.returns-clause-asserting
 returns-clause-asserting c =
-    let t : Taught c.args.trail.now c.args.arena.now c.args.conflict c.in_ok-point.point
-    c.first_uip.new.analyzed.items c.classify.new.analyzed.items c.in_ok-parts.parts.kept.items
-    c.in_ok-parts.parts.resolved.items = record {
-      is = c.analyze_clause.ensures.trail;
-      founded = c.requires.founded;
-      deep = c.requires.deep;
-      complete = c.requires.complete;
-      known = c.requires.known;
-      refuted = c.requires.refuted;
-      first_uip = c.in_ok-point.ensures.resolved_from;
-      at = c.in_ok-point.ensures.point;
-      cut = c.in_ok-parts.ensures.cut;
-      sorted = c.in_ok-parts.ensures.ascending;
-    } in
-    let members : IsClauseOf c.in_ok-clause.clause (lit_at c.args.trail.now.entries) c.in_ok-parts.parts.kept.items =
-    subst (IsClauseOf c.in_ok-clause.clause (lit_at c.args.trail.now.entries)) c.deref.ensures.value c.in_ok-clause.ensures in
+    let t = taught (goal.at.returns-clause-asserting c).After-deref in
+    let members = clause_members (goal.at.returns-clause-asserting c).After-copy in
     subst (IsAsserting c.args.trail.now.entries c.args.trail.now.depth c.highest_level.result) (sym c.in_ok-copy.ensures)
     (asserting_clause c.args.trail.now c.args.arena.now c.args.conflict c.in_ok-point.point
     c.first_uip.new.analyzed.items c.classify.new.analyzed.items c.in_ok-parts.parts.kept.items
@@ -177,22 +119,8 @@ returns-clause-asserting c =
 
 pub returns-clause-fresh : goal.returns-clause-fresh
 returns-clause-fresh c =
-    let t : Taught c.args.trail.now c.args.arena.now c.args.conflict c.in_ok-point.point
-    c.first_uip.new.analyzed.items c.classify.new.analyzed.items c.in_ok-parts.parts.kept.items
-    c.in_ok-parts.parts.resolved.items = record {
-      is = c.analyze_clause.ensures.trail;
-      founded = c.requires.founded;
-      deep = c.requires.deep;
-      complete = c.requires.complete;
-      known = c.requires.known;
-      refuted = c.requires.refuted;
-      first_uip = c.in_ok-point.ensures.resolved_from;
-      at = c.in_ok-point.ensures.point;
-      cut = c.in_ok-parts.ensures.cut;
-      sorted = c.in_ok-parts.ensures.ascending;
-    } in
-    let members : IsClauseOf c.in_ok-clause.clause (lit_at c.args.trail.now.entries) c.in_ok-parts.parts.kept.items =
-    subst (IsClauseOf c.in_ok-clause.clause (lit_at c.args.trail.now.entries)) c.deref.ensures.value c.in_ok-clause.ensures in
+    let t = taught (goal.at.returns-clause-fresh c).After-deref in
+    let members = clause_members (goal.at.returns-clause-fresh c).After-copy in
     subst (IsNew c.args.arena.now) (sym c.in_ok-copy.ensures)
     (new_clause c.args.trail.now c.args.arena.now c.args.conflict c.in_ok-point.point
     c.first_uip.new.analyzed.items c.classify.new.analyzed.items c.in_ok-parts.parts.kept.items
@@ -200,22 +128,8 @@ returns-clause-fresh c =
 
 pub returns-clause-derived : goal.returns-clause-derived
 returns-clause-derived c = λ table arena known.
-    let t : Taught c.args.trail.now c.args.arena.now c.args.conflict c.in_ok-point.point
-    c.first_uip.new.analyzed.items c.classify.new.analyzed.items c.in_ok-parts.parts.kept.items
-    c.in_ok-parts.parts.resolved.items = record {
-      is = c.analyze_clause.ensures.trail;
-      founded = c.requires.founded;
-      deep = c.requires.deep;
-      complete = c.requires.complete;
-      known = c.requires.known;
-      refuted = c.requires.refuted;
-      first_uip = c.in_ok-point.ensures.resolved_from;
-      at = c.in_ok-point.ensures.point;
-      cut = c.in_ok-parts.ensures.cut;
-      sorted = c.in_ok-parts.ensures.ascending;
-    } in
-    let members : IsClauseOf c.in_ok-clause.clause (lit_at c.args.trail.now.entries) c.in_ok-parts.parts.kept.items =
-    subst (IsClauseOf c.in_ok-clause.clause (lit_at c.args.trail.now.entries)) c.deref.ensures.value c.in_ok-clause.ensures in
+    let t = taught (goal.at.returns-clause-derived c).After-deref in
+    let members = clause_members (goal.at.returns-clause-derived c).After-copy in
     learnt_by table c.args.trail.now c.args.arena.now c.args.units.now c.args.tags.now
     c.args.conflict c.in_ok-point.point c.first_uip.new.analyzed.items c.classify.new.analyzed.items
     c.in_ok-parts.parts.kept.items c.in_ok-parts.parts.resolved.items

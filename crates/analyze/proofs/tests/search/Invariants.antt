@@ -1,6 +1,6 @@
 use Rattle.std.proofs.Common.{◌≡◌}
-use Rattle.tarmo_bench.specs.Search.{IsReady}
-use Rattle.tarmo_bench.proofs.learning.search.search.Given as goal
+use Rattle.analyze.specs.Conflict.{IsReady}
+use Rattle.analyze.proofs.tests.search.Given as goal
 
 abbrev pub invariant-loop-lit : goal.invariant-loop-lit
 invariant-loop-lit l = record {

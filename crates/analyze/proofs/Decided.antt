@@ -1,15 +1,16 @@
 -- A decision keeps a trail founded, and what propagation adds above a level leaves completeness at that level.
-use Rattle.std.proofs.Common.{◌≡◌, ◌≢◌, ◌∙◌, ℕ, ◌+◌, ◌<◌, ◌≤◌, List, [], ◌∷◌, ◌++◌, length, take, refl, ap, subst, sym, inl, inr, arith, Option, None, Some, IfNone, IfSome}
+use Rattle.std.proofs.Common.{◌≡◌, ◌≢◌, ◌∙◌, ℕ, ◌+◌, ◌-◌, ◌<◌, ◌≤◌, List, [], ◌∷◌, ◌++◌, length, take, refl, ap, subst, sym, inl, inr, arith, Option, None, Some, IfNone, IfSome}
 use Rattle.std.specs.Prelude.{◌⊎◌, All, Contains, slice_index_or}
 use Rattle.std.proofs.lemmas.Bool.{cases_lt}
 use Rattle.std.proofs.lemmas.List.{length_push, get_or_push, get_or_append_left, take-append-le, take_all, take-take, get_or-take, get_or-map, length-map}
 use Rattle.std.proofs.lemmas.List.Elements.{All-from_get_or, All-contains}
 use Rattle.sat_base.proofs.Members.{All-from_members}
 use Rattle.clause_arena.specs.Arena.{ArenaClause, no_clause, clause_at, lits_of_each}
-use Rattle.trail_core.specs.Trail.{Entry, no_entry, entry_at, lits_of, up_to}
-use Rattle.trail_core.specs.UnderTrail.{IsFalseLit, IsOpenClause, IsComplete, IsForced, IsFounded, HasGrown}
+use Rattle.trail_core.specs.Trail.{Entry, TrailView, IsTrail, no_entry, entry_at, lits_of, up_to}
+use Rattle.trail_core.specs.UnderTrail.{IsFalseLit, IsFalseClause, IsOpenClause, IsComplete, IsForced, IsFounded, HasGrown}
 use Rattle.trail_core.proofs.Levels.{up_to_all, up_to_front}
 use Rattle.propagate.specs.Store.{HasSameClauses}
+use Rattle.analyze.specs.Conflict.{IsReady, IsConflict}
 
 old_entry : (t : List Entry) (e : Entry) (i : ℕ) → i < length t → entry_at (t ++ e ∷ []) i ≡ entry_at t i
 old_entry t e i lt = get_or_append_left t (e ∷ []) no_entry i lt
@@ -17,16 +18,8 @@ old_entry t e i lt = get_or_append_left t (e ∷ []) no_entry i lt
 new_entry : (t : List Entry) (e : Entry) (i : ℕ) → i ≡ length t → entry_at (t ++ e ∷ []) i ≡ e
 new_entry t e i at = get_or_push t e no_entry i (sym at)
 
--- nothing is assigned at level 0 of an empty trail
-pub founded_none : (clauses : List (List ℕ)) (t : List Entry) (depth : ℕ) → t ≡ [] → depth ≡ 0 → IsFounded clauses t depth
-founded_none clauses t depth empty ground_level = record {
-  begun = λ level above within. absurd (omega arith);
-  first = λ i lt above alone. absurd (omega (arith, lt, ap length empty));
-  other = λ i k lt above before same. absurd (omega (arith, lt, ap length empty));
-}
-
 -- one more level with a decision
-pub founded_decide : (clauses : List (List ℕ)) (t : List Entry) (depth : ℕ) (e : Entry) → IsFounded clauses t depth → All (λ x. x.level ≤ depth) t → e.level ≡ depth + 1 → e.reason ≡ None → IsFounded clauses (t ++ e ∷ []) (depth + 1)
+founded_decide : (clauses : List (List ℕ)) (t : List Entry) (depth : ℕ) (e : Entry) → IsFounded clauses t depth → All (λ x. x.level ≤ depth) t → e.level ≡ depth + 1 → e.reason ≡ None → IsFounded clauses (t ++ e ∷ []) (depth + 1)
 founded_decide clauses t depth e founded below level free = record {
   begun = λ l above within. begun l above (cases_lt l (depth + 1)) within;
   first = λ i lt above alone. first i lt above alone (cases_lt i (length t));
@@ -76,7 +69,7 @@ front_same : (t all : List Entry) (depth : ℕ) → All (λ x. x.level ≤ depth
 front_same t all depth below longer front above =
     up_to_front depth all (length t) longer (subst (λ (xs : List Entry). All (λ x. x.level ≤ depth) xs) (sym front) below) above ∙ front ∙ sym (up_to_all depth t below)
 
-pub complete_below : (old new : List ArenaClause) (t mid all : List Entry) (e : Entry) (depth : ℕ) → HasSameClauses old new → IsComplete t depth (lits_of_each old) → All (λ x. x.level ≤ depth) t → mid ≡ t ++ e ∷ [] → e.level ≡ depth + 1
+complete_below : (old new : List ArenaClause) (t mid all : List Entry) (e : Entry) (depth : ℕ) → HasSameClauses old new → IsComplete t depth (lits_of_each old) → All (λ x. x.level ≤ depth) t → mid ≡ t ++ e ∷ [] → e.level ≡ depth + 1
     → HasGrown (lits_of_each new) (depth + 1) mid all → IsComplete all depth (lits_of_each new)
 complete_below old new t mid all e depth same complete below pushed level grown = record {
   each = All-from_get_or (IsOpenClause (lits_of (up_to depth all))) (lits_of_each new) [] (λ id lt. at id (omega (arith, lt, length-map new (λ (c : ArenaClause). c.lits))));
@@ -111,17 +104,55 @@ complete_below old new t mid all e depth same complete below pushed level grown 
         (subst (IsOpenClause (lits_of (up_to depth t))) (sym (get_or-map (λ (c : ArenaClause). c.lits) new id no_clause [] lt))
         (open_same (lits_of (up_to depth t)) (clause_at old id).lits (clause_at new id).lits (same.each id known).kept (same.each id known).no_more was))
 
-pub none_weaker : {X : Type 0} (o : Option X) (P Q : Type 0) → (P → Q) → IfNone o P → IfNone o Q
+none_weaker : {X : Type 0} (o : Option X) (P Q : Type 0) → (P → Q) → IfNone o P → IfNone o Q
 none_weaker None P Q f h = f h
 none_weaker (Some x) P Q f h = h
 
-pub some_both : {X : Type 0} (o : Option X) (P Q R : X → Type 0) → ((x : X) → P x → Q x → R x) → IfSome o P → IfSome o Q → IfSome o R
+some_both : {X : Type 0} (o : Option X) (P Q R : X → Type 0) → ((x : X) → P x → Q x → R x) → IfSome o P → IfSome o Q → IfSome o R
 some_both None P Q R f p q = p
 some_both (Some x) P Q R f p q = f x p q
 
 -- the trail after a decision and propagation
-pub founded_after : (clauses new : List (List ℕ)) (t opened mid all : List Entry) (depth depth' : ℕ) (e : Entry) → IsFounded clauses t depth → All (λ x. x.level ≤ depth) t → opened ≡ t → depth' ≡ depth + 1 → e.level ≡ depth' → e.reason ≡ None
+founded_after : (clauses new : List (List ℕ)) (t opened mid all : List Entry) (depth depth' : ℕ) (e : Entry) → IsFounded clauses t depth → All (λ x. x.level ≤ depth) t → opened ≡ t → depth' ≡ depth + 1 → e.level ≡ depth' → e.reason ≡ None
     → mid ≡ opened ++ e ∷ [] → (IsFounded clauses mid depth' → IsFounded new all depth') → IsFounded new all depth'
 founded_after clauses new t opened mid all depth depth' e founded below same deeper level free pushed grows =
     grows (subst (IsFounded clauses mid) (sym deeper)
     (subst (λ (xs : List Entry). IsFounded clauses xs (depth + 1)) (sym (pushed ∙ ap (λ (xs : List Entry). xs ++ e ∷ []) same)) (founded_decide clauses t depth e founded below (level ∙ deeper) free)))
+
+-- the trail after a decision and propagation, apart from what propagation answers
+pub record IsBelowDecision (clauses : List ArenaClause) (trail : TrailView) : Type 0 where
+  pub founded : IsFounded (lits_of_each clauses) trail.entries trail.depth
+  pub deep : 0 < trail.depth
+  pub complete : IsComplete trail.entries (trail.depth - 1) (lits_of_each clauses)
+
+pub below_decision : (old new : List ArenaClause) (before opened mid after : TrailView) (lit : ℕ) → IsReady old before → IsTrail before
+    → opened.entries ≡ before.entries → opened.depth ≡ before.depth + 1
+    → mid.entries ≡ opened.entries ++ record { lit = lit; level = opened.depth; reason = None } ∷ [] → mid.depth ≡ opened.depth
+    → after.depth ≡ mid.depth → HasSameClauses old new → HasGrown (lits_of_each new) mid.depth mid.entries after.entries
+    → (IsFounded (lits_of_each old) mid.entries mid.depth → IsFounded (lits_of_each new) after.entries mid.depth)
+    → IsBelowDecision new after
+below_decision old new before opened mid after lit ready is entries deeper pushed depth still same grown keeps = record {
+  founded = subst (IsFounded (lits_of_each new) after.entries) (sym still)
+      (founded_after (lits_of_each old) (lits_of_each new) before.entries opened.entries mid.entries after.entries before.depth mid.depth e ready.founded is.below entries (depth ∙ deeper) (sym depth) refl pushed keeps);
+  deep = omega (arith, still, depth, deeper);
+  complete = subst (λ d. IsComplete after.entries d (lits_of_each new)) (omega (arith, still, depth, deeper))
+      (complete_below old new before.entries mid.entries after.entries e before.depth same ready.complete is.below (pushed ∙ ap (λ (xs : List Entry). xs ++ e ∷ []) entries) deeper
+      (subst (λ d. HasGrown (lits_of_each new) d mid.entries after.entries) (depth ∙ deeper) grown));
+}
+  where
+    e : Entry
+    e = record { lit = lit; level = opened.depth; reason = None }
+
+-- what propagation answers after the decision
+pub ready_again : (clauses : List ArenaClause) (trail : TrailView) (answer : Option ℕ) → IsBelowDecision clauses trail
+    → IfNone answer (IsComplete trail.entries trail.depth (lits_of_each clauses)) → IfNone answer (IsReady clauses trail)
+ready_again clauses trail answer below =
+    none_weaker answer (IsComplete trail.entries trail.depth (lits_of_each clauses)) (IsReady clauses trail)
+    (λ complete. record { founded = below.founded; complete = complete })
+
+pub conflict_then : (clauses : List ArenaClause) (trail : TrailView) (answer : Option ℕ) → IsBelowDecision clauses trail
+    → IfSome answer (λ id. id < length clauses) → IfSome answer (λ id. IsFalseClause (lits_of trail.entries) (clause_at clauses id).lits)
+    → IfSome answer (IsConflict clauses trail)
+conflict_then clauses trail answer below =
+    some_both answer (λ id. id < length clauses) (λ id. IsFalseClause (lits_of trail.entries) (clause_at clauses id).lits) (IsConflict clauses trail)
+    (λ id known refuted. record { founded = below.founded; deep = below.deep; complete = below.complete; known = known; refuted = refuted })

@@ -1,4 +1,4 @@
--- A store and a trail between two decisions, and at a conflict.
+-- A trail over an arena between two decisions, and at a conflict.
 use Rattle.std.specs.Prelude.{ℕ, ◌-◌, ◌<◌, List, length}
 use Rattle.clause_arena.specs.Arena.{ArenaClause, clause_at, lits_of_each}
 use Rattle.trail_core.specs.Trail.{TrailView, lits_of}
