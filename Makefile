@@ -16,6 +16,7 @@ test:
 # The built program beside the libraries of minisat, cadical and picosat where they are installed,
 # on generated texts. ARGS=--quick takes the small ones.
 bench:
+	cd crates/tarmo_bench && rt run > /dev/null
 	bench/measure.py $(ARGS)
 
 # The twenty functions of the built program that take most instructions on FILE, by valgrind.

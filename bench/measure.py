@@ -20,7 +20,7 @@ from pathlib import Path
 import pictures
 import tables
 from families import KINDS, SIZES, families
-from programs import BUILT, INSTALL, TARMO, TOP, compile_program, peers, tarmo
+from programs import BUILT, COUNTS, INSTALL, TARMO, TOP, compile_program, peers, tarmo
 from runs import Runner
 from texts import Text
 
@@ -135,6 +135,8 @@ def main():
     mine = tarmo()
     if mine is None:
         sys.exit(f"{TARMO}: no such program; `make run` builds it")
+    if not COUNTS.exists():
+        print(f"{COUNTS}: not built, so Tarmo's conflicts are left out; `make bench` builds it")
     if not all(map(compile_program, ("stopwatch", "check"))):
         sys.exit(f"the programs of bench/drivers can't be compiled; on Debian: {INSTALL}")
     programs = [mine, *peers()]

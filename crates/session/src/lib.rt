@@ -10,6 +10,7 @@
 
 mod answering;
 mod conflicts;
+mod counts;
 mod inputs;
 mod levels;
 mod models;
@@ -28,5 +29,6 @@ mod tests;
 mod unit_steps;
 
 pub use answering::Conclusion;
+pub use counts::Counts;
 pub use rounds::Round;
 pub use session::Session;

@@ -12,6 +12,7 @@ ghost use Rattle.session.specs.Answering.{Answers};
 ghost use Rattle.session.specs.Session.{no_inputs};
 
 use crate::answering::{Conclusion, solve_until_answered};
+use crate::counts::Counts;
 use crate::inputs::load;
 use crate::rounds::Round;
 use crate::search::Search;
@@ -133,6 +134,20 @@ impl Session {
         ensures { result.now ≡ self.now.solver.learnt }
     {
         &self.search.learnt
+    }
+
+    /// How much was done since the session was made. It is for measuring: but for the number of
+    /// learnt clauses no contract tells it.
+    pub fn counts(&self) -> Counts
+        ensures learnt { result.learnt ≡ length self.now.solver.learnt }
+    {
+        let decisions = self.search.trail.decisions();
+        let assignments = self.search.trail.assignments();
+        Counts {
+            learnt: self.search.learnt.len() as u64,
+            decisions,
+            propagations: assignments.saturating_sub(decisions),
+        }
     }
 
     /// The number of the job that is loaded, 0 before the first.

@@ -10,6 +10,7 @@ mod checker;
 mod learning;
 mod lock;
 mod reader;
+mod solver;
 mod trimming;
 
 use anyhow::Result;
@@ -19,6 +20,7 @@ const USAGE: &str = "\
 tarmo_bench MEASURE [SIZES]
 
   reader                     counts what an iCNF text on standard input states
+  solver                     solves it, and counts what the search did
   checker [STEPS]            checks a trace of so many steps
   learning [VARIABLES CALLS] learns from one conflict again and again
   trimming [STEPS]           trims and prints a derivation of so many steps
@@ -42,6 +44,7 @@ fn main(rt: HostRuntime) -> Result<()> {
     };
     match measure.as_str() {
         "reader" => reader::measure(&rt),
+        "solver" => solver::measure(&rt),
         "checker" => checker::measure(&rt, size_at(&rt, 2)?),
         "learning" => learning::measure(&rt, size_at(&rt, 2)?, size_at(&rt, 3)?),
         "trimming" => trimming::measure(&rt, size_at(&rt, 2)?),

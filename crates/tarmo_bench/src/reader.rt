@@ -2,8 +2,13 @@
 //! and whether it is accepted: the reader alone, to be timed from outside.
 
 use anyhow::Result;
-use icnf_text::{Fed, Reader, Statement};
+use icnf_text::{Fault, Reader, Statement, Statements};
 use std::io::Read;
+
+/// What is done with the statements of a text, piece by piece.
+pub(crate) trait Taker {
+    fn take(&mut self, statements: Statements) -> Result<()>;
+}
 
 #[derive(Drop)]
 struct Counts {
@@ -12,9 +17,9 @@ struct Counts {
     literals: u64,
 }
 
-impl Counts {
-    fn add(&mut self, fed: &Fed) {
-        for numbered in fed.statements.items() {
+impl Taker for Counts {
+    fn take(&mut self, statements: Statements) -> Result<()> {
+        for numbered in statements.items() {
             let lits = match &numbered.statement {
                 Statement::Clause(clause) => {
                     self.clauses = self.clauses.wrapping_add(1);
@@ -27,15 +32,12 @@ impl Counts {
             };
             self.literals = self.literals.wrapping_add(lits.len() as u64);
         }
+        Ok(())
     }
 }
 
-pub(crate) fn measure(rt: &HostRuntime) -> Result<()> {
-    let mut counts = Counts {
-        clauses: 0,
-        cubes: 0,
-        literals: 0,
-    };
+/// Gives the statements of the text on standard input to the taker, and answers the text's fault.
+pub(crate) fn read_all(rt: &HostRuntime, taker: &mut impl Taker) -> Result<Option<Fault>> {
     let mut input = rt.reader();
     let mut reader = Reader::new(rt.alloc());
     let mut piece = [0u8; 65536];
@@ -44,17 +46,16 @@ pub(crate) fn measure(rt: &HostRuntime) -> Result<()> {
         if count == 0 {
             break;
         }
-        counts.add(&reader.feed(&piece[..count])?);
+        taker.take(reader.feed(&piece[..count])?.statements)?;
     }
     let fed = reader.finish()?;
-    counts.add(&fed);
-    let Counts {
-        clauses,
-        cubes,
-        literals,
-    } = counts;
-    println!(rt; "clauses {clauses} cubes {cubes} literals {literals}")?;
-    match fed.fault {
+    taker.take(fed.statements)?;
+    Ok(fed.fault)
+}
+
+/// Prints whether the text is accepted, or where and why it isn't.
+pub(crate) fn print_end(rt: &HostRuntime, fault: Option<Fault>) -> Result<()> {
+    match fault {
         None => println!(rt; "accepted")?,
         Some(fault) => {
             let line = fault.line;
@@ -63,4 +64,20 @@ pub(crate) fn measure(rt: &HostRuntime) -> Result<()> {
         }
     }
     Ok(())
+}
+
+pub(crate) fn measure(rt: &HostRuntime) -> Result<()> {
+    let mut counts = Counts {
+        clauses: 0,
+        cubes: 0,
+        literals: 0,
+    };
+    let fault = read_all(rt, &mut counts)?;
+    let Counts {
+        clauses,
+        cubes,
+        literals,
+    } = counts;
+    println!(rt; "clauses {clauses} cubes {cubes} literals {literals}")?;
+    print_end(rt, fault)
 }

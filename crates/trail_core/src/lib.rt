@@ -6,6 +6,7 @@
 //! variables. This crate knows no clause: a reason is a number to it.
 #![tactic(auto)]
 
+mod counts;
 mod standing;
 mod trail;
 mod truth;

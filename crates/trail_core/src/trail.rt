@@ -10,6 +10,7 @@ ghost use Rattle.trail_core.specs.UnderTrail.{IsUnassigned};
 ghost use Rattle.trail_core.specs.Truth.{HasTruth, truth_of};
 ghost use Rattle.trail_core.specs.Standing.{IsStandingOf};
 
+use crate::counts::Counts;
 use crate::standing::Standing;
 use crate::truth::Truth;
 use sat_base::Lit;
@@ -31,6 +32,7 @@ pub struct Trail {
     count: usize,
     depth: u32,
     vars: u32,
+    counts: Counts,
 }
 
 impl Model for Trail {
@@ -59,6 +61,7 @@ impl Trail {
             count: 0,
             depth: 0,
             vars: 0,
+            counts: Counts::none(),
         }
     }
 
@@ -103,6 +106,7 @@ impl Trail {
         );
         self.lits[self.count] = lit;
         self.count += 1;
+        self.counts.assignments = self.counts.assignments.saturating_add(1);
     }
 
     /// Opens the next level. Takes no memory.
@@ -114,6 +118,7 @@ impl Trail {
     {
         let depth = self.depth + 1;
         self.set_depth(depth);
+        self.counts.decisions = self.counts.decisions.saturating_add(1);
     }
 
     /// Takes back exactly the literals of higher levels than this one, which is the present level
@@ -237,6 +242,19 @@ impl Trail {
     {
         let standing = self.standing(var)?;
         standing.reason()
+    }
+
+    /// How many levels were opened since the trail was made, those that were taken back included.
+    /// The count stands still at the greatest `u64`. It is for measuring: no contract tells it.
+    pub fn decisions(&self) -> u64 {
+        self.counts.decisions
+    }
+
+    /// How many literals were made true since the trail was made, those that were taken back
+    /// included. The count stands still at the greatest `u64`. It is for measuring: no contract
+    /// tells it.
+    pub fn assignments(&self) -> u64 {
+        self.counts.assignments
     }
 
     // What is kept of the variable, where it is assigned.
