@@ -1,9 +1,8 @@
 -- Where no job is to take, and when nothing is left to do.
-use Rattle.std.proofs.Common.{◌≡◌, ◌∙◌, ◌⊎◌, inl, inr, ℕ, zero, suc, ◌+◌, ◌-◌, ◌<◌, ◌≤◌, Bool, true, false, cond, Option, Some, None, List, [], ◌∷◌, ◌++◌, length, refl, ap, sym, subst, arith, append_assoc, ◌==◌, ◌&&◌}
+use Rattle.std.proofs.Common.{◌≡◌, ◌∙◌, ◌⊎◌, inl, inr, ℕ, zero, suc, ◌+◌, ◌-◌, ◌<◌, ◌≤◌, Bool, true, false, cond, Option, Some, None, List, [], ◌∷◌, ◌++◌, length, refl, ap, subst, arith, ◌==◌, ◌&&◌}
 use Rattle.std.specs.Prelude.{IsSome, is_some, nat_le, count_by, slice_get, slice_index_or, All}
 use Rattle.std.specs.List.{cons_option}
 use Rattle.std.proofs.lemmas.Bool.Decides.{nat_tests}
-use Rattle.std.proofs.lemmas.List.{append-nil}
 use Rattle.std.proofs.lemmas.List.Elements.{All-nil}
 use Rattle.std.proofs.lemmas.List.Sums.{sum_by-cons}
 use Rattle.std.proofs.lemmas.Option.{same_Some, slice_get-get_or}
@@ -14,7 +13,7 @@ use Rattle.entry_core.specs.declared.entries.Event.{Event}
 use Rattle.entry_core.specs.declared.entries.Event.TheVariants as event
 use Rattle.entry_core.specs.declared.rules.Rules.{Rules}
 use Rattle.entry_core.specs.Attempts.{Attempt, begun_by, attempts, attempt, is_open, open_attempts, spent_attempts}
-use Rattle.entry_core.specs.Settled.{or_else, given_if, overtaken, standing, settled_after, settled}
+use Rattle.entry_core.specs.Settled.{or_else, given_if, overtaken, standing, settled}
 use Rattle.entry_core.specs.Schedule.{IsWaiting}
 use Rattle.entry_core.specs.Legal.{AreWithinLimits, IsAllowed, IsLegal, IsLegalAfter, IsWorker}
 use Rattle.entry_core.proofs.LongerJournals.{no_case_later}

@@ -12,5 +12,6 @@ pub mod Kept
 pub mod Ended
 pub mod Rested
 pub mod Left
+pub mod Begun
 pub mod Finished
 pub mod OneWorker

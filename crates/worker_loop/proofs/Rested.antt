@@ -1,6 +1,6 @@
 -- Who rests after an attempt.
-use Rattle.std.proofs.Common.{◌≡◌, ◌∙◌, ℕ, ◌+◌, ◌-◌, ◌≤◌, Bool, true, false, cond, not, Some, None, List, [], ◌∷◌, ◌++◌, length, refl, ap, sym, arith, ◌==◌, ◌||◌}
-use Rattle.std.specs.Prelude.{nat_le, slice_get}
+use Rattle.std.proofs.Common.{◌≡◌, ◌∙◌, ℕ, ◌+◌, ◌≤◌, Bool, true, false, not, Some, None, List, [], ◌∷◌, ◌++◌, length, refl, ap, sym, arith, ◌==◌, ◌||◌}
+use Rattle.std.specs.Prelude.{nat_le}
 use Rattle.std.specs.List.{list_any}
 use Rattle.std.proofs.lemmas.Bool.Decides.{nat_tests}
 use Rattle.std.proofs.lemmas.List.{length_push}
@@ -8,6 +8,7 @@ use Rattle.std.proofs.lemmas.List.Folds.{list_any-append}
 use Rattle.std.proofs.lemmas.Option.{same_Some}
 use Rattle.trace_core.specs.Known.{item_at}
 use Rattle.entry_core.specs.declared.entries.Entry.{Entry}
+use Rattle.entry_core.specs.declared.entries.Event.{Event}
 use Rattle.entry_core.specs.declared.entries.Event.TheVariants as event
 use Rattle.entry_core.specs.Attempts.{Attempt, begun_by, attempts, ended_by, ended}
 use Rattle.entry_core.specs.Journal.{jobs}
@@ -15,13 +16,12 @@ use Rattle.entry_core.specs.Legal.{IsRunning}
 use Rattle.trace_core.proofs.Items.{item_at-last}
 use Rattle.entry_core.proofs.LegalEntries.{or_yes}
 use Rattle.entry_core.proofs.LongerJournals.{item_kept}
-use Rattle.board_core.specs.State.{State}
+use Rattle.board_core.specs.State.{State, entered}
 use Rattle.board_core.specs.Replies.{IsBegun, job_in, job_at}
 use Rattle.board_core.proofs.Readings.{unread, read_on}
 use Rattle.board_core.proofs.Verdicts.{entry_by}
 use Rattle.board_core.proofs.Changes.{same_segments}
 use Rattle.board_core.proofs.Looked.{item_place}
-use Rattle.board_core.proofs.Endings.{get_last}
 use Rattle.worker_loop.specs.Working.{IsResting}
 use Rattle.worker_loop.specs.Attempts.{IsAt, HasEnded}
 use Rattle.worker_loop.proofs.Events.{ends_one}
@@ -101,3 +101,18 @@ rested old mid new caller job number resting begun end k own =
     ap (λ (b : State). ended b.journal) end.is ∙ read_on (λ (e : Entry). ended_by e.event) mid.journal last number end.ends
     ∙ ap (λ (b : State). ended b.journal ++ number ∷ []) begun.adds ∙ ap (λ all. all ++ number ∷ []) (unread (λ (e : Entry). ended_by e.event) old.journal first refl) in
     resting k (record { begun = own.begun; running = open_before old.journal new.journal caller number job k own.begun begun.numbered more ends own.running })
+
+-- who rested rests after an entry that neither begins nor ends an attempt
+pub rests_still : (old new : State) (caller by : ℕ) (happened : Event) → begun_by by happened ≡ None → ended_by happened ≡ None → new ≡ entered old by happened → IsResting old caller → IsResting new caller
+rests_still old new caller by happened begins ends is resting number own =
+    let entry : Entry = entry_by by happened in
+    let same : attempts new.journal ≡ attempts old.journal = ap (λ (b : State). attempts b.journal) is ∙ unread (λ (e : Entry). begun_by e.caller e.event) old.journal entry begins in
+    let same_ends : ended new.journal ≡ ended old.journal = ap (λ (b : State). ended b.journal) is ∙ unread (λ (e : Entry). ended_by e.event) old.journal entry ends in
+    resting number (record {
+      begun = own.begun;
+      running = record {
+        found = ap (λ all. item_at all number) (sym same) ∙ own.running.found;
+        own = own.running.own;
+        open_yet = ap (λ all. not (list_any (λ n. n == own.begun.number) all)) (sym same_ends) ∙ own.running.open_yet;
+      };
+    })

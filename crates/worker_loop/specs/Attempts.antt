@@ -1,6 +1,6 @@
 -- One attempt of a worker, and what is left to do after it.
 use Rattle.std.specs.Prelude.{◌≡◌, ◌⊎◌, ℕ, zero, suc, ◌+◌, ◌-◌, ◌<◌, ◌≤◌, Option, None, Some}
-use Rattle.std.specs.Prelude.{IsSome, is_some, if◌then◌else◌, List, []}
+use Rattle.std.specs.Prelude.{IsSome, is_some, if◌then◌else◌, List, [], length}
 use Rattle.entry_core.specs.declared.entries.Entry.{Entry}
 use Rattle.entry_core.specs.declared.entries.Event.{Event}
 use Rattle.entry_core.specs.declared.entries.Event.TheVariants as event
@@ -8,7 +8,7 @@ use Rattle.entry_core.specs.declared.rules.Rules.{Rules}
 use Rattle.entry_core.specs.Journal.{jobs}
 use Rattle.entry_core.specs.Attempts.{ended_by, spent_attempts}
 use Rattle.entry_core.specs.Schedule.{IsWaiting}
-use Rattle.entry_core.specs.Settled.{settled}
+use Rattle.entry_core.specs.Settled.{settled, starved}
 use Rattle.board_core.specs.State.{State, entered}
 use Rattle.board_core.specs.Replies.{IsJob, IsOwn, job_at}
 use Rattle.session.specs.Session.{no_inputs}
@@ -17,7 +17,7 @@ use Rattle.worker_loop.specs.declared.ends.End.{End}
 use Rattle.worker_loop.specs.declared.ends.End.TheVariants.{Answered, Spent}
 use Rattle.worker_loop.specs.Fits.{Fits}
 use Rattle.worker_loop.specs.Kept.{KeepsLearnt}
-use Rattle.worker_loop.specs.Working.{HasAttemptsMore, IsResting, given_up}
+use Rattle.worker_loop.specs.Working.{HasAttemptsMore, IsResting}
 
 -- an open attempt of the caller at this job of the board
 pub record IsAt (board : State) (caller number job : ℕ) : Type 0 where
@@ -85,11 +85,11 @@ abbrev pub IsBeforeWaiting : Bench → State → Type 0
 IsBeforeWaiting bench board = (job : ℕ) → IsWaiting board.rules board.journal job
     → bench.session.solver.bound ≤ job
 
--- Nothing that was learnt is lost, unless an attempt was given up, and the session is at no job
+-- Nothing that was learnt is lost, unless an attempt found no memory, and the session is at no job
 -- behind one that waits.
 pub record KeepsOn (old new : State) (bench bench' : Bench) : Type 0 where
   pub kept : KeepsLearnt bench.session.solver bench'.session.solver
-      ⊎ (given_up old.journal < given_up new.journal)
+      ⊎ (length (starved old.journal) < length (starved new.journal))
   pub before : IsBeforeWaiting bench' new
 
 -- What stands between attempts: those so far, the worker's rest, and the bench.

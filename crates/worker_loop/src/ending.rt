@@ -43,7 +43,7 @@ pub(crate) fn make_attempt(
 }
 
 /// Brings the bench to the job, and pursues the attempt up to its end.
-fn pursue_job(
+pub(crate) fn pursue_job(
     alloc: Global,
     board: &Board,
     bench: &mut Bench,

@@ -15,6 +15,8 @@ mod importing;
 mod lessons;
 mod loading;
 mod rounds;
+#[cfg(test)]
+mod tests;
 mod working;
 
 pub use attempt::Attempt;

@@ -16,7 +16,7 @@ use std::alloc::{AllocError, Global};
 
 /// Makes attempts at the jobs of the board until none is to take. Want of memory within an
 /// attempt ends it as starved, and the work goes on with a new bench; so the error comes from
-/// taking a job alone.
+/// taking a job alone. No attempt is dropped, since nobody else settles its job meanwhile.
 pub fn work_alone(
     alloc: Global,
     board: &mut Board,
@@ -30,7 +30,7 @@ pub fn work_alone(
     ensures resting { IsResting board.new caller }
     ensures fits { Fits bench.new board.new.journal }
     ensures idle { OnOk result ((job : ℕ) → ¬ IsWaiting board.new.rules board.new.journal job) }
-    // With one worker, nothing that was learnt is lost, unless an attempt was given up.
+    // With one worker, nothing that was learnt is lost, unless an attempt found no memory.
     ensures kept { board.old.rules.workers ≡ 1 → IsBeforeWaiting bench.old board.old
         → KeepsOn board.old board.new bench.old bench.new }
     // With one worker, nothing is left to do.
@@ -58,7 +58,7 @@ fn work_once(
     ensures works { HasAttemptsMore board.old board.new caller }
     ensures resting { IsResting board.new caller }
     ensures fits { Fits bench.new board.new.journal }
-    // With one worker, nothing that was learnt is lost, unless an attempt was given up.
+    // With one worker, nothing that was learnt is lost, unless an attempt found no memory.
     ensures kept { board.old.rules.workers ≡ 1 → IsBeforeWaiting bench.old board.old
         → KeepsOn board.old board.new bench.old bench.new }
     ensures fewer { IfOk result (λ made. IsTrue made → left_on board.new < left_on board.old) }

@@ -9,7 +9,7 @@ use Rattle.worker_loop.proofs.Rested.{begun_at, rested}
 use Rattle.worker_loop.proofs.Left.{left_fewer}
 use Rattle.worker_loop.proofs.Kept.{fits_entered, nothing_more}
 use Rattle.worker_loop.specs.Attempts.{KeepsOn}
-use Rattle.worker_loop.proofs.OneWorker.{on_itself, once_kept}
+use Rattle.worker_loop.proofs.OneWorker.{on_itself, once_kept, once_more}
 use Rattle.worker_loop.proofs.Finished.{no_task}
 use Rattle.worker_loop.proofs.working.work_once.Goals as goal
 
@@ -29,6 +29,13 @@ make_attempt-requires-clause-fits c =
     let begun : IsBegun c.args.board.now c.take.new.self c.args.caller c.in-Job.job c.in-Job.attempt =
     subst (IsTask c.args.board.now c.take.new.self c.args.caller) c.in-Job.is c.in_ok-job.ensures.task in
     fits_entered c.args.bench.now c.args.board.now c.take.new.self c.args.caller _ begun.adds c.requires.fits
+
+pub returns-in-Job-clause-works : goal.returns-in-Job-clause-works
+returns-in-Job-clause-works c =
+    let begun : IsBegun c.args.board.now c.take.new.self c.args.caller c.in-Job.job c.in-Job.attempt =
+    subst (IsTask c.args.board.now c.take.new.self c.args.caller) c.in-Job.is c.in_ok-job.ensures.task in
+    once_more c.args.board.now c.take.new.self c.make_attempt.new.board c.args.caller c.in-Job.job c.in-Job.attempt c.args.bench.now c.make_attempt.new.bench
+    c.journal.ensures.legal begun c.make_attempt.ensures.made
 
 pub returns-in-Job-clause-resting : goal.returns-in-Job-clause-resting
 returns-in-Job-clause-resting c =
