@@ -1,12 +1,12 @@
 -- The hints of ok steps name inputs and earlier steps.
-use Rattle.std.proofs.Common.{◌≡◌, ℕ, ◌-◌, ◌<◌, ◌≤◌, List, [], ◌∷◌, ◌++◌, length, Option, Some}
-use Rattle.std.proofs.Common.{None, refl, subst, arith, Bool, true, false, cond}
-use Rattle.std.specs.Prelude.{IsSome, option_and_then, ◌==◌}
+use Rattle.std.proofs.Common.{List, [], ◌∷◌, ◌++◌, length}
+use Rattle.std.proofs.Common.{subst}
+use Rattle.std.specs.Prelude.{IsSome}
 use Rattle.std.proofs.lemmas.List.{length-append}
 use Rattle.std.proofs.lemmas.List.Elements.{All-weaker}
 use Rattle.sat_base.specs.declared.origins.Ref.{Ref}
 use Rattle.sat_base.specs.declared.origins.Ref.TheVariants.{Input, Shared, Own}
-use Rattle.trace_core.specs.Known.{Known, known, item_at}
+use Rattle.trace_core.specs.Known.{Known, known}
 use Rattle.trace_core.specs.Trace.{AreOkSteps, known_of}
 use Rattle.trace_core.specs.declared.derivation.Step.{Step}
 use Rattle.trace_core.proofs.Items.{item_at-within}

@@ -1,5 +1,5 @@
 -- What a desk keeps when its board grows.
-use Rattle.std.proofs.Common.{◌≡◌, ◌∙◌, ◌≤◌, List, [], ◌++◌, length, ap, sym, subst, arith}
+use Rattle.std.proofs.Common.{◌≡◌, ◌∙◌, List, [], ◌++◌, length, ap, sym, subst, arith}
 use Rattle.entry_core.specs.declared.segments.Segment.{Segment}
 use Rattle.board_core.specs.State.{State}
 use Rattle.worker_loop.specs.Fits.{Fits}

@@ -4,7 +4,7 @@ use Rattle.std.proofs.Common.{append_assoc, append-nil}
 use Rattle.std.specs.Prelude.{All, Result, Ok, Err, OnErr, OnOk}
 use Rattle.std.specs.declared.alloc.AllocError.{AllocError}
 use Rattle.std.proofs.lemmas.List.Elements.{All-head, All-tail}
-use Rattle.sat_base.specs.Lit.{IsLit, IsLitSet, greatest_of, greatest_of_all}
+use Rattle.sat_base.specs.Lit.{IsLit, IsLitSet, greatest_of}
 use Rattle.entry_core.specs.declared.segments.Segment.{Segment}
 use Rattle.entry_core.specs.Journal.{segments}
 use Rattle.board_core.specs.State.{State}

@@ -5,7 +5,7 @@ use Rattle.entry_core.specs.Settled.{cancelled}
 use Rattle.board_core.specs.State.{State}
 use Rattle.tarmo_run.specs.declared.endings.Ending.{Ending}
 use Rattle.tarmo_run.specs.declared.endings.Ending.TheVariants.{Exhausted}
-use Rattle.tarmo_run.specs.Output.{AreSettled, IsOutput, Reading, UnlessExhausted, last_line_of}
+use Rattle.tarmo_run.specs.Output.{AreSettled, IsOutput, UnlessExhausted, last_line_of}
 use Rattle.tarmo_run.specs.Reading.{AsksFirst}
 
 -- a front of the last line was taken: of this ending, or of want of memory

@@ -56,24 +56,6 @@ const SOURCE_FAILS: &[Case<'static>] = &[
         source_fails: &[6],
         ..PLAIN
     },
-    // The sink is full after ten bytes.
-    Case {
-        text: "p inccnf\n1 2 0\n-1 0\na 0\n",
-        room: 10,
-        output: "j 1 SATISF",
-        status: 4,
-        outcomes: FIRST,
-        ..PLAIN
-    },
-    Case {
-        text: "p inccnf\n1 2 0\n-1 0\na 0\n",
-        source_fails: &[2],
-        room: 10,
-        output: "fault read",
-        status: 4,
-        outcomes: NONE,
-        ..PLAIN
-    },
 ];
 
 // How many bytes a sink takes that fails at a call: the cuts of the text, how many bytes it takes
@@ -100,6 +82,27 @@ const SINK_FAILS: &[(&[usize], usize, &[u64], usize, u8, &[Outcome])] = &[
     (PIECES, 7, &[9], 44, 4, BOTH),
     (PIECES, 7, &[10], 50, 4, BOTH),
     (PIECES, 7, &[11], 50, 0, BOTH),
+];
+
+// The sink is full after ten bytes.
+const FULL: &[Case<'static>] = &[
+    Case {
+        text: "p inccnf\n1 2 0\n-1 0\na 0\n",
+        room: 10,
+        output: "j 1 SATISF",
+        status: 4,
+        outcomes: FIRST,
+        ..PLAIN
+    },
+    Case {
+        text: "p inccnf\n1 2 0\n-1 0\na 0\n",
+        source_fails: &[2],
+        room: 10,
+        output: "fault read",
+        status: 4,
+        outcomes: NONE,
+        ..PLAIN
+    },
 ];
 
 // The calls are one start, two reads of the text and one that finds its end.
@@ -162,6 +165,9 @@ fn a_failing_sink_takes_a_front(rt: HostRuntime) -> Result<(), Fail> {
             ..PLAIN
         };
         assert_front(rt.alloc(), &rt, &case, *size)?;
+    }
+    for case in FULL {
+        assert_case(rt.alloc(), &rt, case)?;
     }
     Ok(())
 }

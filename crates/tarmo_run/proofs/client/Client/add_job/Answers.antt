@@ -1,7 +1,7 @@
 use Rattle.std.proofs.Common.{◌≡◌, rules, subst, sym}
 use Rattle.std.specs.Arc.{arc_value}
 use Rattle.entry_core.specs.declared.entries.Event.TheVariants as event
-use Rattle.board_core.specs.State.{State, entered}
+use Rattle.board_core.specs.State.{entered}
 use Rattle.tarmo_run.specs.Growth.{HasJobsMore}
 use Rattle.tarmo_run.proofs.Boards.{jobs_none}
 use Rattle.tarmo_run.proofs.Growing.{jobs_by, one_segment_more}
