@@ -133,6 +133,13 @@ const UP_TO_THE_END: &[Case<'static>] = &[
         status: 2,
         ..PLAIN
     },
+    // The greatest variable.
+    Case {
+        text: "p inccnf\n8388607 0\na -8388607 0\n",
+        output: "j 1 UNSATISFIABLE\nf -8388607 0\nend 1\n",
+        outcomes: REFUTED,
+        ..PLAIN
+    },
 ];
 
 // The trace goes on behind the clauses. It may have steps before its last one, and ends in the

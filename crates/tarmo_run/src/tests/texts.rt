@@ -43,11 +43,6 @@ const ACCEPTED: &[(&str, &str)] = &[
     ),
     (COUNTER, COUNTED),
     (PIGEONS, "j 1 UNSATISFIABLE\nf 0\nend 1\n"),
-    // The greatest variable.
-    (
-        "p inccnf\n8388607 0\na -8388607 0\n",
-        "j 1 UNSATISFIABLE\nf -8388607 0\nend 1\n",
-    ),
     // A text in two layouts.
     (
         "p inccnf\n1 2 0\n-1 0\na -2 0\n",
