@@ -2,14 +2,14 @@
 
 ghost use Rattle.std.specs.Prelude.{◌≡◌, ◌≢◌, ◌<◌, ◌≤◌, ◌⊎◌, ◌↔◌, ◌^◌, ℕ, List, [], Some, None};
 ghost use Rattle.std.specs.Prelude.{true, false, nat_lt, map, take, string_bytes};
-ghost use Rattle.std.specs.Prelude.{IfOk, IfSome, OnErr, MatchOption};
+ghost use Rattle.std.specs.Prelude.{IfOk, IfSome, OnErr, OnOk, MatchOption};
 ghost use Rattle.sat_base.specs.Lit.{variables};
 ghost use Rattle.run_io.specs.Bytes.{IsEmptyWhereTold, appended};
 ghost use Rattle.run_io.specs.Fault.{HasCause, last_count};
 ghost use Rattle.entry_core.specs.declared.answers.Verdict.{Verdict};
 ghost use Rattle.entry_core.specs.declared.answers.Verdict.TheVariants as verdict;
 ghost use Rattle.entry_core.specs.Causes.{HasCause as HasItsCause};
-ghost use Rattle.entry_core.specs.Journal.{clauses_of, cube_of};
+ghost use Rattle.entry_core.specs.Journal.{clauses_of, cube_of, is_closed};
 ghost use Rattle.entry_core.specs.Legal.{IsLegal};
 ghost use Rattle.entry_core.specs.Settled.{settled};
 ghost use Rattle.tarmo_run.specs.Desk.{IsBetweenPieces, IsFresh};
@@ -41,8 +41,8 @@ pub struct Finish {
     /// 6 where memory ran out, for the run or for a job; 3 where the source failed; 2 where the
     /// text has a wrong place; 1 where a job was given up; 0 otherwise.
     pub status: u8,
-    /// The board with the text's jobs and their verdicts. None where the words aren't accepted, or
-    /// where there was no memory for a board.
+    /// The board with the text's jobs and their verdicts, which takes no more jobs. None where the
+    /// words aren't accepted, or where there was no memory for a board.
     pub board: Option<Board>,
 }
 
@@ -87,6 +87,7 @@ pub fn run_alone<S: Source, O: Sink>(
         settled board.rules board.journal job ≡ Some verdict.Spent →
         board.rules.conflicts
         ≤ 3 ^ variables (clauses_of board.journal job) (cube_of board.journal job)) }
+    ensures closed { IfSome result.board (λ board. is_closed board.journal ≡ true) }
     ensures whole { S.ended source.new ≡ true → IsEmptyWhereTold (S.left source.new) }
 
     ensures complete { (command : Command) (text : List ℕ) →
@@ -154,6 +155,7 @@ fn run_over<S: Source, O: Sink>(
         (IsRun command (S.left source.old) (S.left source.new) (S.ended source.new)
         (nat_lt (S.faults source.old) (S.faults source.new))
         (O.taken out.old) (O.taken out.new) result.status) }
+    ensures closed { IfSome result.board (λ board. is_closed board.journal ≡ true) }
     ensures whole { S.ended source.new ≡ true → IsEmptyWhereTold (S.left source.new) }
     ensures sink { (result.status ≡ 4) ↔ (O.faults out.old < O.faults out.new) }
     ensures counts { (S.faults source.old ≤ S.faults source.new)
@@ -193,6 +195,7 @@ fn solve<S: Source, O: Sink>(
         (S.left source.old) (S.left source.new) (S.ended source.new)
         (nat_lt (S.faults source.old) (S.faults source.new)) desk.new.board
         (O.taken out.old) (O.taken out.new)) }
+    ensures closed { OnOk result (is_closed desk.new.board.journal ≡ true) }
     ensures whole { S.ended source.new ≡ true → IsEmptyWhereTold (S.left source.new) }
     ensures later { S.faults source.old ≤ S.faults source.new }
     ensures cause { HasCause (O.faults out.old) (O.faults out.new) result }

@@ -1,9 +1,9 @@
 //! What a client does: it adds jobs to a board, says that no more come, cancels, and asks for
 //! verdicts.
 
-ghost use Rattle.std.specs.Prelude.{◌≡◌, ◌++◌, ◌∷◌, [], None, IfOk, IfSome, OnOk, OnErr};
+ghost use Rattle.std.specs.Prelude.{◌≡◌, ◌++◌, ◌∷◌, [], None, true, IfOk, IfSome, OnOk, OnErr};
 ghost use Rattle.sat_base.specs.Lit.{IsLitSet};
-ghost use Rattle.entry_core.specs.Journal.{segments};
+ghost use Rattle.entry_core.specs.Journal.{is_closed, segments};
 ghost use Rattle.entry_core.specs.Legal.{IsClient};
 ghost use Rattle.entry_core.specs.Settled.{cancelled, settled};
 ghost use Rattle.board_core.specs.Replies.{HasVerdict, IsJob};
@@ -113,11 +113,12 @@ impl Client {
     }
 }
 
-/// Says that no more jobs come.
+/// Says that no more jobs come, so that the board is closed.
 pub(crate) fn close_input(board: &mut Board)
     requires client { IsClient board.old.rules 1 }
     ensures more { HasNoJobMore board.old board.new }
     ensures cancelled { cancelled board.new.journal ≡ cancelled board.old.journal }
+    ensures closed { is_closed board.new.journal ≡ true }
 {
     // A refusal says that it was said before.
     let _ = board.close_input(CLIENT);
@@ -128,6 +129,7 @@ pub(crate) fn give_up(board: &mut Board)
     requires client { IsClient board.old.rules 1 }
     ensures more { HasNoJobMore board.old board.new }
     ensures settled { AreSettled board.new }
+    ensures closed { is_closed board.new.journal ≡ true }
 {
     close_input(board);
     cancel_all(board);

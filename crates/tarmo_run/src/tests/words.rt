@@ -1,6 +1,6 @@
 //! The words of a run.
 
-use super::{PLAIN, Setting, TWO_ANSWERS, TWO_JOBS, run, words_of};
+use super::{Case, PLAIN, TWO_ANSWERS, TWO_JOBS, assert_output, run, words_of};
 use crate::{WORDS_REFUSED, run_alone};
 use run_io::{MemorySink, MemorySource};
 use std::alloc::{AllocError, Global};
@@ -53,23 +53,39 @@ const REFUSED: &[&str] = &[
     "--attempts 1 --attempts 1",
 ];
 
+// These words are accepted, and the board has their rules.
+fn assert_accepted(
+    alloc: Global,
+    rt: &impl Abort,
+    words: &str,
+    trace: bool,
+    conflicts: u64,
+    attempts: u32,
+) -> Result<(), AllocError> {
+    let case = Case {
+        words,
+        text: "p inccnf\n0\na 0\n",
+        ..PLAIN
+    };
+    let run = run(alloc, &case)?;
+    let output = if trace {
+        "j 1 UNSATISFIABLE\nf 0\nt 2 0 1 0\nend 1\n"
+    } else {
+        "j 1 UNSATISFIABLE\nf 0\nend 1\n"
+    };
+    assert_output(rt, &run, output, 0);
+    let Some(board) = &run.board else {
+        panic!(rt; "no board: {words}");
+    };
+    assert_eq!(rt; board.rules().conflicts, conflicts, "{words}");
+    assert_eq!(rt; board.rules().attempts, attempts, "{words}");
+    Ok(())
+}
+
 #[test]
 fn accepted_words_are_the_rules_of_the_board(rt: HostRuntime) -> Result<(), Fail> {
     for (words, trace, conflicts, attempts) in ACCEPTED {
-        let setting = Setting { words, ..PLAIN };
-        let run = run(rt.alloc(), b"p inccnf\n0\na 0\n", setting)?;
-        let output = if *trace {
-            "j 1 UNSATISFIABLE\nf 0\nt 2 0 1 0\nend 1\n"
-        } else {
-            "j 1 UNSATISFIABLE\nf 0\nend 1\n"
-        };
-        assert_eq!(rt; run.taken.as_slice(), output.as_bytes(), "{words}");
-        assert_eq!(rt; run.status, 0, "{words}");
-        let Some(board) = &run.board else {
-            panic!(rt; "no board: {words}");
-        };
-        assert_eq!(rt; board.rules().conflicts, *conflicts, "{words}");
-        assert_eq!(rt; board.rules().attempts, *attempts, "{words}");
+        assert_accepted(rt.alloc(), &rt, words, *trace, *conflicts, *attempts)?;
     }
     Ok(())
 }

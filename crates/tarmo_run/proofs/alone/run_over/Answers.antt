@@ -23,3 +23,9 @@ returns-in-Err-clause-run g c =
     (c.give_up.ensures.more.longer.rules ∙ c.solve.ensures.rules ∙ rules)
     c.give_back-in-Err.ensures.legal refl c.give_up.ensures.more c.give_up.ensures.settled
     c.in-Err.ensures.front)
+
+pub returns-in-Ok-clause-closed : goal.returns-in-Ok-clause-closed
+returns-in-Ok-clause-closed g c = rw c.give_back.ensures.parts c.in-Ok.ensures.closed
+
+pub returns-in-Err-clause-closed : goal.returns-in-Err-clause-closed
+returns-in-Err-clause-closed g c = rw c.give_back-in-Err.ensures.parts c.give_up.ensures.closed

@@ -1,15 +1,16 @@
 use Rattle.std.proofs.Common.{◌≡◌, ◌∙◌, ◌⊎◌}
 use Rattle.std.proofs.lemmas.Result.{IfOk-weaker, on_err_weaker}
 use Rattle.run_io.specs.Bytes.{appended}
+use Rattle.run_io.proofs.Always.{after_err}
 use Rattle.tarmo_run.specs.declared.endings.Ending.TheVariants as endings
 use Rattle.tarmo_run.specs.Output.{last_line_of}
 use Rattle.tarmo_run.proofs.Finishing.{finished, finished_in_blocks, finished_in_line, none_written}
-use Rattle.tarmo_run.proofs.Results.{OnErr-always}
+use Rattle.tarmo_run.proofs.Results.{on_ok_always}
 use Rattle.tarmo_run.proofs.alone.solve.Goals as goal
 
 pub returns-in_err-ending-clause-front : goal.returns-in_err-ending-clause-front
 returns-in_err-ending-clause-front g c =
-    OnErr-always c.from_residual.result
+    after_err c.from_residual.result _
     (finished_in_blocks _ _ _ _ _ _ _ _ c.in_err-ending.ensures.in_part
     (c.in_err-ending.ensures.breaks _ (none_written _ _ _ c.requires.fresh)))
 
@@ -35,3 +36,6 @@ returns-clause-front g c =
     (c.in_ok-ending.ensures.writes _ (none_written _ _ _ c.requires.fresh))
     c.show_blocks.ensures.between.counted.few c.close_input.ensures.more)
     c.close.ensures.front
+
+pub returns-clause-closed : goal.returns-clause-closed
+returns-clause-closed g c = on_ok_always c.close.result c.close_input.ensures.closed

@@ -1,5 +1,10 @@
 use Rattle.tarmo_run.proofs.Boards.{no_job_on}
+use Rattle.tarmo_run.proofs.Closed.{closed_stays}
 use Rattle.tarmo_run.proofs.client.give_up.Goals as goal
 
 pub returns-clause-more : goal.returns-clause-more
 returns-clause-more c = no_job_on _ _ _ c.close_input.ensures.more c.cancel_all.ensures.more
+
+pub returns-clause-closed : goal.returns-clause-closed
+returns-clause-closed c =
+    closed_stays _ _ c.cancel_all.ensures.more.longer c.close_input.ensures.closed

@@ -1,7 +1,7 @@
 use Rattle.std.proofs.Common.{◌≡◌, ◌∙◌, ℕ, ap, sym, length, take}
 use Rattle.std.proofs.Math.Seq.{take-length}
 use Rattle.run_io.specs.Bytes.{appended}
-use Rattle.tarmo_run.proofs.Results.{OnErr-always}
+use Rattle.run_io.proofs.Always.{after_err}
 use Rattle.tarmo_run.proofs.endings.write_last.Goals as goal
 
 pub returns-clause-front : goal.returns-clause-front
@@ -12,4 +12,4 @@ returns-clause-front g c =
       c.flush.ensures.bytes ∙ c.in_ok-write_all.ensures.whole
           ∙ ap (appended (g.O.Sink.taken c.args.out.now)) (sym (take-length c.args.line.now)),
     ) in
-    OnErr-always _ front
+    after_err _ _ front

@@ -2,7 +2,7 @@ use Rattle.std.proofs.Common.{◌∙◌, ℕ, ◌<◌, ◌≤◌, length, refl, 
 use Rattle.tarmo_run.proofs.Reached.{ends_here, failing, goes_on, nearer, nothing_reached}
 use Rattle.tarmo_run.proofs.Reached.{piece_broke, piece_ended, piece_reached, rest_in_part}
 use Rattle.tarmo_run.proofs.Reached.{rest_through, still_unended, through_unread, unfailing}
-use Rattle.tarmo_run.proofs.Results.{OnErr-always}
+use Rattle.run_io.proofs.Always.{after_err}
 use Rattle.tarmo_run.proofs.pieces.answer_pieces.Goals as goal
 
 pub loop-count-init : goal.loop-count-init
@@ -48,7 +48,7 @@ returns-then-count-eq0-clause-in_part g c =
 
 pub returns-in_err-ending-clause-in_part : goal.returns-in_err-ending-clause-in_part
 returns-in_err-ending-clause-in_part g c =
-    OnErr-always c.from_residual.result
+    after_err c.from_residual.result _
     (piece_broke _ c.loop-count.desk c.answer_piece.new.desk _ _ _ _ _ _
     (goes_on _ _ c.in-Ok.count _ c.in-Ok.ensures.ended c.loop-count.invariant.unended
     c.if-count-eq0.false)

@@ -1,10 +1,10 @@
+use Rattle.run_io.proofs.Always.{after_err}
 use Rattle.tarmo_run.proofs.Reached.{end_in_part, through_before_end, through_complete, through_end}
-use Rattle.tarmo_run.proofs.Results.{OnErr-always}
 use Rattle.tarmo_run.proofs.pieces.answer_rest.Goals as goal
 
 pub returns-in_err-ending-in-Ok-clause-in_part : goal.returns-in_err-ending-in-Ok-clause-in_part
 returns-in_err-ending-in-Ok-clause-in_part g c =
-    OnErr-always c.from_residual.result
+    after_err c.from_residual.result _
     (λ bytes failed up. end_in_part c.args.reader c.args.desk.now c.answer_fed.new.desk
     c.in-Ok.fed.statements bytes failed c.in-Ok.ensures.given c.in_err-ending-in-Ok.ensures.first
     up)
