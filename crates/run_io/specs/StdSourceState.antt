@@ -1,8 +1,19 @@
 -- A source over a file or standard input.
-use Rattle.std.specs.Prelude.{ℕ, Bool}
+use Rattle.std.specs.Prelude.{ℕ, Bool, List, Option, Some, None}
+use Rattle.run_io.specs.declared.std_source.Opened.{Opened}
+use Rattle.run_io.specs.declared.std_source.Opened.TheVariants as opened
 
--- whether its input is open, the count of its faults, and whether a read has found the end
+-- whether its input is open, the bytes that the open input will give where the system's object
+-- tells them, the count of its faults, and whether a read has found the end
 pub record StdSourceState : Type 0 where
   pub is_open : Bool
+  pub remaining : Option (List ℕ)
   pub faults : ℕ
   pub ended : Bool
+
+module _ {F I : Type 0} (of_file : F → Option (List ℕ)) (of_reader : I → Option (List ℕ)) where
+  -- the bytes that what is open will give, where it tells them
+  abbrev pub remaining_of : Option (Opened F I) → Option (List ℕ)
+  remaining_of None = None
+  remaining_of (Some (opened.File file)) = of_file file
+  remaining_of (Some (opened.Input reader)) = of_reader reader

@@ -1,8 +1,10 @@
 //! A source over a named file or standard input.
 ghost use Rattle.std.specs.Prelude.{◌≡◌, ◌≤◌, ◌||◌, false, true, None, IfNone, IfOk, IsErr, IsOk};
 ghost use Rattle.std.specs.Prelude.{OnErr, OnOk, is_some, length};
+ghost use Rattle.std.specs.Io.KnownBytes.{ReadConsumes};
 ghost use Rattle.run_io.specs.Bytes.{is_end};
 ghost use Rattle.run_io.specs.Fault.{one_more, HasCause};
+ghost use Rattle.run_io.specs.StdSourceState.{remaining_of};
 
 use crate::pieces::finds_end;
 use crate::system::{counted_answer, read_some};
@@ -31,11 +33,16 @@ enum Opened<F, I> {
 
 impl<'a, R: Files + Input> Model for StdSource<'a, R> {
     ghost use Rattle.std.specs.Prelude.{is_some};
-    ghost use Rattle.run_io.specs.StdSourceState.{StdSourceState};
+    ghost use Rattle.run_io.specs.StdSourceState.{StdSourceState, remaining_of};
 
     ghost Value = { StdSourceState };
 
-    ghost view = { λ a. record { is_open = is_some a.input; faults = a.faults; ended = a.ended } };
+    ghost view = { λ a. record {
+      is_open = is_some a.input;
+      remaining = remaining_of R.File.remaining R.Reader.remaining a.input;
+      faults = a.faults;
+      ended = a.ended;
+    } };
 }
 
 impl<'a, R: Files + Input> StdSource<'a, R> {
@@ -86,6 +93,7 @@ impl<'a, R: Files + Input> Source for StdSource<'a, R> {
         ensures ended { self.new.ended ≡ (self.old.ended || is_end result (length buf.old)) }
         ensures cause { HasCause self.old.faults self.new.faults result }
         ensures kept { self.new.is_open ≡ self.old.is_open }
+        ensures bytes { ReadConsumes self.old.remaining self.new.remaining result buf.new }
         ensures closed { self.old.is_open ≡ false → IsErr result }
         ensures counted { OnErr result (self.new.faults ≡ one_more self.old.faults) }
     {
@@ -103,6 +111,8 @@ fn read_opened<F: Read, I: Read>(
 ) -> Result<usize, Failed>
     ensures count { IfOk result (λ n. n ≤ length buf.old) }
     ensures kept { is_some input.new ≡ is_some input.old }
+    ensures bytes { ReadConsumes (remaining_of F.remaining I.remaining input.old)
+        (remaining_of F.remaining I.remaining input.new) result buf.new }
     ensures closed { is_some input.old ≡ false → IsErr result }
 {
     match input {

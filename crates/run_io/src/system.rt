@@ -1,10 +1,13 @@
 //! Single calls on the system, and the count of their faults.
-ghost use Rattle.std.specs.Prelude.{◌≡◌, ◌<◌, ◌≤◌, IfOk, IfSome, OnErr, length};
+ghost use Rattle.std.specs.Prelude.{◌≡◌, ◌<◌, ◌≤◌, ◌↔◌, IfErr, IfOk, IfSome, IsErr, IsNone};
+ghost use Rattle.std.specs.Prelude.{Ok, OnErr, Some, length};
+ghost use Rattle.std.specs.Io.KnownBytes.{ReadConsumes, WriteAppends};
+ghost use Rattle.std.specs.IoError.{error_kind};
 ghost use Rattle.run_io.specs.Fault.{one_more, HasCause};
 
 use crate::Failed;
 use std::io;
-use std::io::{Read, Write};
+use std::io::{ErrorKind, Read, Write};
 
 /// Counts the fault where the answer is one; the count stands still at its last number.
 pub(crate) fn counted_answer<T>(answer: Result<T, Failed>, faults: &mut u64) -> Result<T, Failed>
@@ -20,7 +23,8 @@ pub(crate) fn counted_answer<T>(answer: Result<T, Failed>, faults: &mut u64) -> 
 
 /// One read, tried again where a signal interrupts it.
 pub(crate) fn read_some<R: Read>(reader: &mut R, buf: &mut [u8]) -> Result<usize, Failed>
-    ensures { IfOk result (λ n. n ≤ length buf.old) }
+    ensures count { IfOk result (λ n. n ≤ length buf.old) }
+    ensures bytes { ReadConsumes (R.remaining reader.old) (R.remaining reader.new) result buf.new }
 {
     for _ in 0..u64::MAX {
         if let Some(answer) = settled_answer(reader.read(buf)) {
@@ -35,6 +39,7 @@ pub(crate) fn read_some<R: Read>(reader: &mut R, buf: &mut [u8]) -> Result<usize
 pub(crate) fn write_some<W: Write>(writer: &mut W, piece: &[u8]) -> Result<usize, Failed>
     ensures count { IfOk result (λ n. n ≤ length piece.now) }
     ensures some { IfOk result (λ n. 0 < length piece.now → 0 < n) }
+    ensures bytes { WriteAppends (W.contents writer.old) (W.contents writer.new) result piece.now }
 {
     for _ in 0..u64::MAX {
         if let Some(answer) = settled_answer(writer.write(piece)) {
@@ -49,11 +54,14 @@ pub(crate) fn write_some<W: Write>(writer: &mut W, piece: &[u8]) -> Result<usize
 
 /// What the system answered, or nothing where a signal interrupted the call.
 fn settled_answer<T>(answer: io::Result<T>) -> Option<Result<T, Failed>>
-    ensures value { IfSome result (λ settled. IfOk settled (λ value. answer ≡ Ok value)) }
+    ensures value { IfOk answer (λ value. result ≡ Some (Ok value)) }
+    ensures fault { IsErr answer → IfSome result IsErr }
+    ensures interrupted { IfErr answer
+        (λ fault. IsNone result ↔ (error_kind fault ≡ ErrorKind.Interrupted)) }
 {
     match answer {
         Ok(value) => Some(Ok(value)),
-        Err(fault) if fault.kind() == io::ErrorKind::Interrupted => None,
+        Err(fault) if fault.kind() == ErrorKind::Interrupted => None,
         Err(_) => Some(Err(Failed)),
     }
 }
