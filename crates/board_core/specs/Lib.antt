@@ -5,3 +5,4 @@ pub mod Index
 pub mod Kept
 pub mod Replies
 pub mod Worked
+pub mod Growing

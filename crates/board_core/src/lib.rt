@@ -3,7 +3,7 @@
 //!
 //! The layers above see a board as its rules and its journal, which is legal after any list of
 //! calls; each call adds at most one entry, and its answer is what the journal before it says. This
-//! crate knows no lock, no thread and no solver.
+//! crate says what a lock may keep a board by, and knows no thread and no solver.
 #![tactic(auto)]
 
 mod answers;
@@ -12,6 +12,7 @@ mod clients;
 mod ends;
 mod faults;
 mod index;
+mod kept;
 mod looks;
 mod rank;
 mod task;
