@@ -1,7 +1,7 @@
 -- A run of the audit: what was read, what was found, and what was written.
 use Rattle.std.specs.Prelude.{◌≡◌, ℕ, ◌<◌, ◌≤◌, ◌⊎◌, Bool, true, Option, List, ◌++◌, length, take}
 use Rattle.std.specs.Prelude.{codes, decimal}
-use Rattle.run_io.specs.Bytes.{appended, followed_by}
+use Rattle.run_io.specs.Bytes.{appended, followed_by, IsEmptyWhereTold}
 use Rattle.run_io.specs.Fault.{last_count}
 use Rattle.verdict_audit.specs.Audit.{Audits}
 use Rattle.verdict_audit.specs.declared.findings.Finding.{Finding}
@@ -36,10 +36,12 @@ abbrev pub IsReadFault : ReadFault → ℕ → ℕ → Type 0
 IsReadFault fault.Failed before now = (before ≤ now) × ((before < now) ⊎ (now ≡ last_count))
 IsReadFault fault.Memory before now = now ≡ before
 
--- The source gave these bytes, and was read to its end or past the most bytes of a text.
+-- The source gave these bytes, and was read to its end or past the most bytes of a text. Where it
+-- has ended they are all that it had.
 pub record Gave (before after : Option (List ℕ)) (ended : Bool) (bytes : List ℕ) : Type 0 where
   pub gave : before ≡ followed_by bytes after
   pub enough : (ended ≡ true) ⊎ (length bytes ≡ 4294967297)
+  pub whole : ended ≡ true → IsEmptyWhereTold after
 
 -- what an audit finds in the bytes that two sources gave
 pub record Found (icnf_before icnf_after : Option (List ℕ)) (icnf_ended : Bool)

@@ -2,7 +2,7 @@
 
 ghost use Rattle.std.specs.Prelude.{◌≡◌, ◌<◌, ◌≤◌, ◌⊎◌, ◌++◌, ℕ, List, true, false, length, IfOk};
 ghost use Rattle.std.specs.Prelude.{MatchResult};
-ghost use Rattle.run_io.specs.Bytes.{followed_by};
+ghost use Rattle.run_io.specs.Bytes.{followed_by, IsEmptyWhereTold};
 ghost use Rattle.audit_run.specs.Run.{IsReadFault};
 
 use run_io::{Failed, Source};
@@ -63,6 +63,7 @@ fn read_piece<S: Source>(
         (λ _. (bytes : List ℕ) × (text.new.items ≡ text.old.items ++ bytes) × (length bytes ≤ room)
         × (S.left source.old ≡ followed_by bytes (S.left source.new))) }
     ensures ended { IfOk result (λ end. S.ended source.new ≡ end) }
+    ensures whole { IfOk result (λ end. end ≡ true → IsEmptyWhereTold (S.left source.new)) }
     ensures cause { MatchResult result (λ _. S.faults source.new ≡ S.faults source.old)
         (λ fault. IsReadFault fault (S.faults source.old) (S.faults source.new)) }
     ensures more { IfOk result
@@ -84,8 +85,10 @@ pub(crate) fn read_source<S: Source>(
     requires { S.ended source.old ≡ false }
     ensures bytes { IfOk result
         (λ text. S.left source.old ≡ followed_by text.items (S.left source.new)) }
-    ensures whole { IfOk result
+    ensures enough { IfOk result
         (λ text. (S.ended source.new ≡ true) ⊎ (length text.items ≡ 4294967297)) }
+    ensures whole { IfOk result
+        (λ _. S.ended source.new ≡ true → IsEmptyWhereTold (S.left source.new)) }
     ensures cause { MatchResult result (λ _. S.faults source.new ≡ S.faults source.old)
         (λ fault. IsReadFault fault (S.faults source.old) (S.faults source.new)) }
 {

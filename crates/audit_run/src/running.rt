@@ -49,10 +49,10 @@ fn find<S: Source, T: Source>(
 /// source gives under the second word, for the iCNF text that the first one gives under the first
 /// word, and writes `good P U` or `bad LINE REASON`.
 ///
-/// The first status of this order that stands: 5 where there aren't two words, and then nothing is
-/// read or written; 4 where the sink failed; 6 where memory ran out; 3 where a source failed; 1
-/// where the output is bad; 0 otherwise. A source is read to its end, or up to the first byte
-/// behind the greatest length.
+/// The status is 5 where there aren't two words, and then nothing is read or written; 3 where a
+/// source failed; 4 where the sink failed; 6 where memory ran out; otherwise 1 where the output is
+/// bad and 0 where it is good. The run stops at its first fault. A source is read to its end, and
+/// then nothing of it is left, or up to the first byte behind the greatest length.
 pub fn audit_run<S: Source, T: Source, O: Sink>(
     alloc: Global,
     words: &[String],
@@ -78,8 +78,7 @@ pub fn audit_run<S: Source, T: Source, O: Sink>(
 
     ensures sink { (result ≡ 4) ↔ (O.faults out.old < O.faults out.new) }
     ensures sources { (result ≡ 3)
-        ↔ (((S.faults icnf.old < S.faults icnf.new) ⊎ (T.faults output.old < T.faults output.new))
-        × (result ≢ 4) × (result ≢ 6)) }
+        ↔ ((S.faults icnf.old < S.faults icnf.new) ⊎ (T.faults output.old < T.faults output.new)) }
     ensures counts { (S.faults icnf.old ≤ S.faults icnf.new)
         × (T.faults output.old ≤ T.faults output.new) × (O.faults out.old ≤ O.faults out.new) }
 {

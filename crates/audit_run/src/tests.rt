@@ -65,5 +65,9 @@ fn faults_have_their_statuses(rt: HostRuntime) -> Result<(), Fail> {
     let untaken = run(rt.alloc(), &words, OUTPUT, &[], &[2])?;
     assert_eq!(rt; untaken.status, 4);
     assert_eq!(rt; untaken.taken.as_slice(), b"good".as_slice());
+    // Three writes take the whole line, and the fourth call is the flush.
+    let unflushed = run(rt.alloc(), &words, OUTPUT, &[], &[4])?;
+    assert_eq!(rt; unflushed.status, 4);
+    assert_eq!(rt; unflushed.taken.as_slice(), b"good 1 0\n".as_slice());
     Ok(())
 }
