@@ -68,7 +68,13 @@ fn segment(
 }
 
 // A board without jobs, of one client and one worker.
-fn board(alloc: Global, rt: &impl Abort, conflicts: u64, attempts: u32) -> Result<Board, AllocError>
+fn board(
+    alloc: Global,
+    rt: &impl Abort,
+    conflicts: u64,
+    attempts: u32,
+    traces: bool,
+) -> Result<Board, AllocError>
     ensures { IfOk result (λ board. IsResting board 2) }
 {
     assert!(rt; conflicts >= 1);
@@ -79,6 +85,7 @@ fn board(alloc: Global, rt: &impl Abort, conflicts: u64, attempts: u32) -> Resul
         attempts,
         conflicts,
         first: false,
+        traces,
     };
     Board::new(alloc, rules)
 }
@@ -115,10 +122,11 @@ fn board_of_one(
     cube: &[i32],
     conflicts: u64,
     attempts: u32,
+    traces: bool,
 ) -> Result<Board, AllocError>
     ensures { IfOk result (λ board. IsResting board 2) }
 {
-    let mut board = board(alloc, rt, conflicts, attempts)?;
+    let mut board = board(alloc, rt, conflicts, attempts, traces)?;
     add(rt, &mut board, segment(alloc, rt, rows, cube)?);
     Ok(board)
 }
@@ -127,7 +135,7 @@ fn board_of_one(
 fn board_of_two(alloc: Global, rt: &impl Abort) -> Result<Board, AllocError>
     ensures { IfOk result (λ board. IsResting board 2) }
 {
-    let mut board = board(alloc, rt, 1, 1)?;
+    let mut board = board(alloc, rt, 1, 1, true)?;
     add(rt, &mut board, segment(alloc, rt, &[&[1]], &[])?);
     add(rt, &mut board, segment(alloc, rt, &[&[-1]], &[])?);
     Ok(board)
@@ -168,8 +176,9 @@ fn answer(
     rt: &impl Abort,
     rows: &[&[i32]],
     cube: &[i32],
+    traces: bool,
 ) -> Result<Arc<Answer>, AllocError> {
-    let board = board_of_one(alloc, rt, rows, cube, u64::MAX, 1)?;
+    let board = board_of_one(alloc, rt, rows, cube, u64::MAX, 1, traces)?;
     let mut bench = Bench::new(alloc, 0);
     match pursue(alloc, rt, &board, &mut bench, 1)? {
         End::Answered(answer) => Ok(answer),
@@ -189,7 +198,7 @@ const MODELS: &[(&[&[i32]], &[i32], &[bool])] = &[
 fn free_variables_have_a_value(rt: HostRuntime) -> Result<(), Fail> {
     let alloc = rt.alloc();
     for (rows, cube, values) in MODELS {
-        match &*answer(alloc, &rt, rows, cube)? {
+        match &*answer(alloc, &rt, rows, cube, true)? {
             Answer::Model(model) => assert_eq!(rt; model.values(), *values, "{cube:?}"),
             Answer::Refuted(_, _) => panic!(rt; "refuted: {cube:?}"),
         }
@@ -215,6 +224,23 @@ fn assert_steps(
     Ok(())
 }
 
+// The answer refutes this part, and these are the steps that are kept with it.
+fn assert_refuted(
+    alloc: Global,
+    rt: &impl Abort,
+    answer: &Answer,
+    part: &[i32],
+    steps: &[Row],
+) -> Result<(), AllocError> {
+    match answer {
+        Answer::Model(_) => panic!(rt; "a model: {part:?}"),
+        Answer::Refuted(found, trace) => {
+            assert_eq!(rt; found.lits(), lits(alloc, rt, part)?.as_slice());
+            assert_steps(alloc, rt, trace.items(), steps)
+        }
+    }
+}
+
 // Clauses, a cube, its refuted part, and the steps of the trace: a unit clause against its
 // negation, an empty clause, two literals of three, and one behind a chain.
 const REFUTED: &[(&[&[i32]], &[i32], &[i32], &[Row])] = &[
@@ -238,20 +264,13 @@ const REFUTED: &[(&[&[i32]], &[i32], &[i32], &[Row])] = &[
 ];
 
 #[test]
-fn refuted_parts_have_their_traces(rt: HostRuntime) -> Result<(), Fail> {
+fn refuted_parts_have_their_traces_where_these_are_kept(rt: HostRuntime) -> Result<(), Fail> {
     let alloc = rt.alloc();
     for (rows, cube, part, steps) in REFUTED {
-        match &*answer(alloc, &rt, rows, cube)? {
-            Answer::Model(_) => panic!(rt; "a model: {cube:?}"),
-            Answer::Refuted(found, trace) => {
-                assert_eq!(rt;
-                    found.lits(),
-                    lits(alloc, &rt, part)?.as_slice(),
-                    "{cube:?}"
-                );
-                assert_steps(alloc, &rt, trace.items(), steps)?;
-            }
-        }
+        let kept = answer(alloc, &rt, rows, cube, true)?;
+        assert_refuted(alloc, &rt, &kept, part, steps)?;
+        let unkept = answer(alloc, &rt, rows, cube, false)?;
+        assert_refuted(alloc, &rt, &unkept, part, &[])?;
     }
     Ok(())
 }
@@ -260,7 +279,7 @@ fn refuted_parts_have_their_traces(rt: HostRuntime) -> Result<(), Fail> {
 #[test]
 fn a_spent_budget_leaves_what_was_learnt(rt: HostRuntime) -> Result<(), Fail> {
     let alloc = rt.alloc();
-    let mut board = board_of_one(alloc, &rt, PIGEONS, &[], 1, 1)?;
+    let mut board = board_of_one(alloc, &rt, PIGEONS, &[], 1, 1, true)?;
     let mut bench = Bench::new(alloc, 0);
     work(alloc, &rt, &mut board, &mut bench)?;
     assert!(rt; matches!(board.verdict(1), Ok(Verdict::Spent)));
@@ -296,7 +315,7 @@ fn an_attempt_goes_on_from_what_the_one_before_learnt(rt: HostRuntime) -> Result
         (ALL_SIGNS, 1, 4, Outcome::Refuted, 9, 3),
         (ALL_SIGNS, 4, 1, Outcome::Refuted, 3, 3),
     ] {
-        let mut board = board_of_one(alloc, &rt, rows, &[], conflicts, attempts)?;
+        let mut board = board_of_one(alloc, &rt, rows, &[], conflicts, attempts, false)?;
         let mut bench = Bench::new(alloc, 0);
         work(alloc, &rt, &mut board, &mut bench)?;
         assert_eq!(rt; board.outcome(1), Ok(outcome), "{attempts} of {conflicts}");
@@ -367,7 +386,7 @@ fn assert_worked_off(
 #[test]
 fn a_closed_board_is_worked_off(rt: HostRuntime) -> Result<(), Fail> {
     let alloc = rt.alloc();
-    assert_worked_off(alloc, &rt, board(alloc, &rt, 1, 1)?, 0)?;
+    assert_worked_off(alloc, &rt, board(alloc, &rt, 1, 1, false)?, 0)?;
     assert_worked_off(alloc, &rt, board_of_two(alloc, &rt)?, 2)?;
     Ok(())
 }
