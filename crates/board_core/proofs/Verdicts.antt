@@ -15,7 +15,7 @@ use Rattle.entry_core.specs.declared.entries.Event.TheVariants as event
 use Rattle.entry_core.specs.declared.rules.Rules.{Rules}
 use Rattle.entry_core.specs.Attempts.{Attempt, begun_by, attempts, is_at, is_attempt_at, spent_by, spent_attempts}
 use Rattle.entry_core.specs.Settled.{Decision, decision_of, decisions, cancelled_by, cancelled, starved_by, starved, or_else, given_if, overtaken, standing, settled}
-use Rattle.entry_core.proofs.LongerJournals.{item_kept}
+use Rattle.trace_core.proofs.Items.{item_at-kept as item_kept}
 use Rattle.board_core.specs.Index.{IsOrderly}
 use Rattle.board_core.proofs.Readings.{unread, read_on, settled_push, IsFree, first_case, not_overtaken, unsettled_free}
 

@@ -6,7 +6,7 @@ use Rattle.std.proofs.lemmas.List.Elements.{All-contains}
 use Rattle.trace_core.specs.Known.{Known, item_at}
 use Rattle.trace_core.specs.Trace.{known_of}
 use Rattle.trace_core.specs.declared.derivation.Step.{Step}
-use Rattle.trace_trim.proofs.Found.{item_at-next}
+use Rattle.trace_core.proofs.Items.{item_at-next}
 use Rattle.session.specs.Solver.{Solver, IsSound, IsStep}
 use Rattle.trace_core.proofs.Items.{item_at-map}
 use Rattle.session.proofs.Renamed.{is_among}

@@ -15,9 +15,9 @@ use Rattle.trace_core.specs.Known.{Known, known, item_at}
 use Rattle.trace_core.specs.Trace.{AreOkSteps, known_of}
 use Rattle.trace_core.specs.declared.derivation.Step.{Step}
 use Rattle.trace_trim.specs.Packed.{AreNamesRight, CiteEarlierOwn, name_of}
-use Rattle.trace_trim.proofs.Order.{item_at-within}
-use Rattle.trace_trim.proofs.OwnWalk.{item_at-there}
-use Rattle.trace_trim.proofs.Zips.{slice_get-place}
+use Rattle.trace_core.proofs.Items.{item_at-within}
+use Rattle.trace_core.proofs.Items.{item_at-there}
+use Rattle.trace_core.proofs.Items.{item_at-found as slice_get-place}
 use Rattle.session.specs.Solver.{Solver, shared_by, known_in, packet_at}
 use Rattle.session.specs.Fronts.{IsFront}
 use Rattle.session.specs.Sharing.{HasPlaceMore, HasTaken}

@@ -9,7 +9,7 @@ use Rattle.trace_core.specs.Known.{Known, item_at, tag_of}
 use Rattle.trace_core.specs.Law.{clauses_up_to}
 use Rattle.trace_core.specs.Trace.{known_of}
 use Rattle.trace_core.specs.declared.derivation.Step.{Step}
-use Rattle.trace_core.proofs.Soundness.{item_at-contains}
+use Rattle.trace_core.proofs.Items.{item_at-contains}
 use Rattle.trace_trim.specs.Packed.{IsOkWhereOwnAreOk, HasGreatestTagLast, AreOfOwn, ends_in}
 use Rattle.session.specs.Solver.{Solver, IsSound, IsStep, IsWithinItsTag, shared_by}
 use Rattle.session.specs.Publishing.{AreNamesFit, IsSharable}

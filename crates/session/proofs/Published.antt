@@ -20,7 +20,7 @@ use Rattle.trace_core.specs.declared.derivation.Step.{Step}
 use Rattle.trace_trim.specs.Packed.{AreNumbersPacked, CiteEarlierOwn, IsPack, IsPackedStep, RestsOn}
 use Rattle.trace_trim.specs.Packed.{name_of}
 use Rattle.trace_trim.specs.Reached.{IsReached}
-use Rattle.trace_trim.proofs.Order.{item_at-within}
+use Rattle.trace_core.proofs.Items.{item_at-within}
 use Rattle.trace_trim.proofs.OwnWalk.{unnamed-own}
 use Rattle.trace_trim.proofs.Zips.{zip_item}
 use Rattle.session.specs.Solver.{Solver, shared_by, packet_at}

@@ -11,7 +11,7 @@ use Rattle.std.proofs.lemmas.List.{length-set}
 use Rattle.sat_base.specs.declared.origins.Ref.{Ref}
 use Rattle.sat_base.specs.declared.origins.Ref.TheVariants.{Shared}
 use Rattle.trace_trim.specs.Packed.{name_of}
-use Rattle.trace_trim.proofs.Zips.{slice_get-place}
+use Rattle.trace_core.proofs.Items.{item_at-found as slice_get-place}
 use Rattle.session.specs.Publishing.{AreNamedAnew}
 
 set_same : {X : Type 0} (xs : List X) (i : ℕ) (x : X) → i < length xs

@@ -18,7 +18,8 @@ use Rattle.trace_core.specs.Known.{Known, known, item_at, clause_of, tag_of}
 use Rattle.trace_core.specs.Law.{clauses_up_to}
 use Rattle.trace_core.specs.Trace.{IsOkStep, AreOkSteps, known_of}
 use Rattle.trace_core.specs.declared.derivation.Step.{Step}
-use Rattle.trace_core.proofs.Soundness.{step_is_sound, ok_step_stays_ok, item_at-contains, named_of}
+use Rattle.trace_core.proofs.Soundness.{step_is_sound, ok_step_stays_ok, named_of}
+use Rattle.trace_core.proofs.Items.{item_at-contains}
 use Rattle.trace_core.proofs.Soundness.{at_most_greatest}
 use Rattle.clause_arena.specs.Arena.{ArenaClause}
 use Rattle.session.specs.Solver.{inputs_of, held_of, clauses_of, named_by, shared_by, known_in}

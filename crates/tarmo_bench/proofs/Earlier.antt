@@ -4,7 +4,7 @@ use Rattle.std.specs.Prelude.{All, IsSome, slice_get, option_and_then, ◌==◌}
 use Rattle.std.proofs.lemmas.Bool.{ne_eqb}
 use Rattle.std.proofs.lemmas.List.{take_more, length-take-le}
 use Rattle.std.proofs.lemmas.Option.{slice_get_within}
-use Rattle.trace_trim.proofs.Zips.{slice_get-place}
+use Rattle.trace_core.proofs.Items.{item_at-found as slice_get-place}
 use Rattle.std.proofs.lemmas.List.Elements.{All-contains}
 use Rattle.sat_base.specs.declared.origins.Ref.{Ref}
 use Rattle.sat_base.specs.declared.origins.Ref.TheVariants.{Input, Shared, Own}

@@ -19,7 +19,7 @@ use Rattle.trace_core.specs.Propagation.{IsFalsified, IsUnit, ReachesConflict, I
 use Rattle.trace_core.specs.Trace.{IsOkStep, greatest, known_of, AreOkSteps}
 use Rattle.trace_core.specs.Law.{OkStepStaysOk, StepIsSound, ProofIsSound, TautologyHolds, clauses_up_to, TagBoundsInputs, TraceIsSound}
 use Rattle.trace_core.specs.declared.derivation.Step.{Step}
-pub use Rattle.trace_core.proofs.Items.{item_at-contains}
+use Rattle.trace_core.proofs.Items.{item_at-contains}
 use Rattle.trace_core.proofs.Items.{nothing_in, Contains-from_filter}
 
 -- a true literal isn't false

@@ -12,7 +12,8 @@ use Rattle.trace_core.specs.Marking.{HasRoom}
 use Rattle.trace_core.specs.Checked.{known_to, hinted, HaveRoom}
 use Rattle.trace_core.specs.Ready.{HaveRoomFor}
 use Rattle.trace_core.specs.declared.derivation.Step.{Step}
-use Rattle.trace_core.proofs.Soundness.{item_at-contains, nothing_shared}
+use Rattle.trace_core.proofs.Soundness.{nothing_shared}
+use Rattle.trace_core.proofs.Items.{item_at-contains}
 use Rattle.trace_core.proofs.RoomLemmas.{room_none}
 
 room_of : (size : ℕ) (o : Option Known) → ((named : Known) → o ≡ Some named → HasRoom size named.clause) → HasRoom size (clause_of o)

@@ -10,7 +10,7 @@ use Rattle.std.proofs.lemmas.Bool.{cases_eq}
 use Rattle.sat_base.specs.contracts.origins.RefOrd.TheImpl as ref_ord
 use Rattle.sat_base.specs.declared.origins.Ref.{Ref}
 use Rattle.trace_core.specs.Known.{item_at}
-pub use Rattle.trace_core.proofs.Items.{item_at-next}
+use Rattle.trace_core.proofs.Items.{item_at-next}
 use Rattle.trace_trim.specs.Names.{IsBefore}
 use Rattle.trace_trim.proofs.Order.{before_trans, before-from_less, less-from_before, same-from_equal, not_before_itself, equal_itself}
 

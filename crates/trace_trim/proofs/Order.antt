@@ -11,7 +11,7 @@ use Rattle.sat_base.specs.declared.origins.Ref.{Ref}
 use Rattle.sat_base.specs.declared.origins.Ref.TheVariants.{Input, Shared, Own}
 use Rattle.trace_core.specs.Known.{item_at}
 use Rattle.trace_core.proofs.Items.{item_at-found}
-pub use Rattle.trace_core.proofs.Items.{item_at-within}
+use Rattle.trace_core.proofs.Items.{item_at-within}
 use Rattle.trace_core.specs.declared.derivation.Step.{Step}
 use Rattle.trace_trim.specs.Names.{step_named, IsBefore}
 

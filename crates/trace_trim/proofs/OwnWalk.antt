@@ -7,7 +7,7 @@ use Rattle.trace_core.specs.Known.{item_at}
 use Rattle.trace_core.specs.declared.derivation.Step.{Step}
 use Rattle.trace_trim.specs.Packed.{name_of, unnamed, RestsOn, CiteEarlierOwn}
 use Rattle.trace_core.proofs.Items.{item_at-within}
-pub use Rattle.trace_core.proofs.Items.{item_at-there}
+use Rattle.trace_core.proofs.Items.{item_at-there}
 use Rattle.trace_trim.proofs.Walk.{IsWalk, LookBack}
 
 -- a hint that leads to an own step without a name names it

@@ -10,9 +10,9 @@ use Rattle.trace_core.specs.declared.derivation.Step.{Step}
 use Rattle.trace_core.proofs.Items.{item_at-append, item_at-contains}
 use Rattle.trace_trim.specs.Names.{CiteEarlierSteps, Cites, IsBefore, cited, step_named}
 use Rattle.trace_trim.proofs.OkSteps.{ok_in_the_end}
-use Rattle.trace_trim.proofs.Order.{item_at-within}
-use Rattle.trace_trim.proofs.OwnWalk.{item_at-there}
-use Rattle.trace_trim.proofs.Zips.{item_at-map, slice_get-place}
+use Rattle.trace_core.proofs.Items.{item_at-within}
+use Rattle.trace_core.proofs.Items.{item_at-there}
+use Rattle.trace_core.proofs.Items.{item_at-map, item_at-found as slice_get-place}
 use Rattle.session.proofs.Names.{ok_look_back}
 
 -- what the steps of packets make known

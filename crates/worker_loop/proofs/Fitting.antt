@@ -10,7 +10,7 @@ use Rattle.std.proofs.lemmas.List.Sums.{length-filter, count_by-le-length}
 use Rattle.trace_core.specs.Known.{Known, item_at}
 use Rattle.trace_core.specs.declared.derivation.Packet.{Packet}
 use Rattle.trace_core.specs.declared.derivation.Step.{Step}
-use Rattle.trace_trim.proofs.Order.{item_at-within}
+use Rattle.trace_core.proofs.Items.{item_at-within}
 use Rattle.entry_core.specs.declared.segments.Segment.{Segment}
 use Rattle.entry_core.specs.declared.entries.Entry.{Entry}
 use Rattle.entry_core.specs.declared.entries.Event.{Event}

@@ -19,8 +19,8 @@ use Rattle.trace_core.specs.declared.derivation.Packet.{Packet}
 use Rattle.trace_core.specs.declared.derivation.Step.{Step}
 use Rattle.trace_core.proofs.Items.{item_at-contains}
 use Rattle.trace_trim.specs.Packed.{ends_in}
-use Rattle.trace_trim.proofs.Order.{item_at-within}
-use Rattle.trace_trim.proofs.Zips.{item_at-map}
+use Rattle.trace_core.proofs.Items.{item_at-within}
+use Rattle.trace_core.proofs.Items.{item_at-map}
 use Rattle.entry_core.specs.declared.entries.Entry.{Entry}
 use Rattle.entry_core.specs.Journal.{inputs, inputs_of, clauses_of, packets}
 use Rattle.entry_core.proofs.SharedSteps.{shared_steps_follow}

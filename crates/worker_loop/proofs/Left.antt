@@ -13,7 +13,7 @@ use Rattle.entry_core.specs.Journal.{segment_of, jobs}
 use Rattle.entry_core.specs.Attempts.{Attempt, begun_by, attempts, is_at, is_attempt_at, spent_by, spent_attempts}
 use Rattle.entry_core.specs.Settled.{settled}
 use Rattle.entry_core.specs.Schedule.{IsWaiting}
-use Rattle.entry_core.proofs.LongerJournals.{item_kept}
+use Rattle.trace_core.proofs.Items.{item_at-kept as item_kept}
 use Rattle.board_core.specs.State.{State, entered}
 use Rattle.board_core.specs.Replies.{IsBegun}
 use Rattle.board_core.proofs.Verdicts.{entry_by}

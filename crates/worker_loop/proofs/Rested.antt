@@ -15,7 +15,7 @@ use Rattle.entry_core.specs.Journal.{jobs}
 use Rattle.entry_core.specs.Legal.{IsRunning}
 use Rattle.trace_core.proofs.Items.{item_at-last}
 use Rattle.entry_core.proofs.LegalEntries.{or_yes}
-use Rattle.entry_core.proofs.LongerJournals.{item_kept}
+use Rattle.trace_core.proofs.Items.{item_at-kept as item_kept}
 use Rattle.board_core.specs.State.{State, entered}
 use Rattle.board_core.specs.Replies.{IsBegun, job_in, job_at}
 use Rattle.board_core.proofs.Readings.{unread, read_on}

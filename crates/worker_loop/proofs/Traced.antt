@@ -14,7 +14,7 @@ use Rattle.trace_core.proofs.Items.{item_at-append, item_at-contains}
 use Rattle.trace_trim.specs.Names.{CiteEarlierSteps}
 use Rattle.trace_trim.specs.Trimmed.{IsTraceWhereOk}
 use Rattle.trace_trim.proofs.Existence.{ok_steps_have_traces}
-use Rattle.trace_trim.proofs.Zips.{item_at-map}
+use Rattle.trace_core.proofs.Items.{item_at-map}
 use Rattle.entry_core.specs.declared.answers.Answer.TheVariants.{Refuted}
 use Rattle.entry_core.specs.declared.entries.Entry.{Entry}
 use Rattle.entry_core.specs.declared.rules.Rules.{Rules}
