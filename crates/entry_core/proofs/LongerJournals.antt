@@ -8,7 +8,6 @@ use Rattle.std.proofs.lemmas.List.Elements.{filter-append, filter_map-append}
 use Rattle.std.proofs.lemmas.List.{append-nil}
 use Rattle.trace_core.specs.Known.{Known, item_at}
 use Rattle.trace_core.proofs.Items.{item_at-kept}
-use Rattle.trace_core.proofs.Items.{item_at-kept as item_kept}
 use Rattle.entry_core.specs.declared.segments.Segment.{Segment}
 use Rattle.entry_core.specs.declared.answers.Verdict.{Verdict}
 use Rattle.entry_core.specs.declared.entries.Entry.{Entry}

@@ -6,7 +6,6 @@ use Rattle.std.specs.Prelude.{Contains}
 use Rattle.sat_base.proofs.Members.{Contains-here, Contains-there}
 use Rattle.trace_core.specs.Known.{item_at}
 use Rattle.trace_core.proofs.Items.{item_at-found, item_at-is}
-use Rattle.trace_core.proofs.Items.{item_at-map, item_at-found as slice_get-place}
 
 pub zip_push : {A B : Type 0} (R : A → B → Type 0) (xs : List A) (ys : List B) (x : A) (y : B) → AllZip R xs ys → R x y → AllZip R (xs ++ x ∷ []) (ys ++ y ∷ [])
 zip_push R [] [] x y zip one = (one, tt)
