@@ -163,10 +163,12 @@ fn a_memory_sink_fails_at_planned_calls(rt: HostRuntime) -> Result<(), Fail> {
 #[test]
 fn a_piece_is_written_whole_or_up_to_the_write_that_failed(rt: HostRuntime) -> Result<(), Fail> {
     let alloc = rt.alloc();
-    let mut sink = MemorySink::new(alloc, 100, 2, [5].to_vec(alloc)?)?;
+    let mut sink = MemorySink::new(alloc, 100, 2, [5, 6].to_vec(alloc)?)?;
     assert_eq!(rt; write_all(&mut sink, &BYTES), Ok(()));
     assert_eq!(rt; write_all(&mut sink, &BYTES), Err(Failed));
     assert_eq!(rt; sink.bytes(), [10, 20, 30, 40, 50, 10, 20].as_slice());
+    assert_eq!(rt; sink.flush(), Err(Failed), "the call behind the failed one");
+    assert_eq!(rt; sink.flush(), Ok(()));
     Ok(())
 }
 

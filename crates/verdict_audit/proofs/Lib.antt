@@ -4,3 +4,4 @@ pub mod EndLines
 pub mod Within
 pub mod JudgeLemmas
 pub mod Accepted
+pub mod OneFinding

@@ -1,4 +1,4 @@
--- What an accepted output shows is right.
+-- What an accepted output shows is right, and an audit has one finding.
 use Rattle.std.specs.Prelude.{ℕ, ◌≡◌, Bool, Option, Some, None, List, [], ◌∷◌}
 use Rattle.sat_base.specs.Truth.{IsModelOf, IsRefutedPart}
 use Rattle.line_tokens.specs.Token.{lines_of}
@@ -8,6 +8,7 @@ use Rattle.verdict_text.specs.declared.lines.Status.{Status}
 use Rattle.verdict_text.specs.declared.lines.Status.TheVariants as status
 use Rattle.verdict_audit.specs.Audit.{Audits}
 use Rattle.verdict_audit.specs.Case.{Case, case_of, clauses_of, cube_of}
+use Rattle.verdict_audit.specs.declared.findings.Finding.{Finding}
 use Rattle.verdict_audit.specs.declared.findings.Finding.TheVariants.{Good}
 
 -- The line below a job's first line has a model of the job's clauses and cube, or a part of its
@@ -37,3 +38,9 @@ abbrev pub AcceptedIsRight : Type 0
 AcceptedIsRight =
     (text output : List ℕ) (proved unproved : ℕ) → Audits text output (Good proved unproved)
     → AreRight (case_of text) (lines_of output)
+
+-- For a text and an output nothing but one finding is what their audit finds.
+abbrev pub HasOneFinding : Type 0
+HasOneFinding =
+    (text output : List ℕ) (one other : Finding) → Audits text output one
+    → Audits text output other → one ≡ other

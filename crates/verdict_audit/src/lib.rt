@@ -18,4 +18,4 @@ mod tests;
 
 pub use auditing::audit;
 pub use findings::{Finding, Flaw};
-pub use laws::accepted_is_right;
+pub use laws::{accepted_is_right, audit_has_one_finding};
