@@ -1,0 +1,5 @@
+pub mod Keeping
+pub mod Made
+pub mod Waiting
+pub mod Again
+pub mod Decided
