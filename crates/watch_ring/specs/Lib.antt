@@ -1,0 +1,3 @@
+pub mod Link
+pub mod Ring
+pub mod Layout
