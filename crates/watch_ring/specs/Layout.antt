@@ -1,6 +1,7 @@
 -- How the lists are kept: a link to the first side for each literal, and one to the next side for
 -- each side.
-use Rattle.std.specs.Prelude.{◌≡◌, ℕ, zero, suc, ◌+◌, ◌*◌, ◌<◌, ◌≤◌, min, max, List, [], ◌∷◌, length, map}
+use Rattle.std.specs.Prelude.{◌≡◌, ℕ, zero, suc, ◌+◌, ◌*◌, ◌<◌, ◌≤◌, min, max, List, [], ◌∷◌}
+use Rattle.std.specs.Prelude.{length, map}
 use Rattle.std.specs.Prelude.{slice_index_or, Option, None, Some}
 use Rattle.watch_ring.specs.declared.ring.WatchRing.TheInside.{Inside}
 use Rattle.watch_ring.specs.Ring.{RingView, list_of, AreDisjoint}

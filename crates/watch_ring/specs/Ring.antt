@@ -1,5 +1,5 @@
--- Lists of sides of clauses, one for each literal. A side is a number: twice that of its clause, and
--- 0 or 1 more.
+-- Lists of sides of clauses, one for each literal. A side is a number: twice that of its clause,
+-- and 0 or 1 more.
 use Rattle.std.specs.Prelude.{◌≡◌, ℕ, ◌*◌, ◌<◌, ◌==◌, not, List, [], ◌∷◌, ◌++◌, filter, Contains}
 use Rattle.std.specs.Prelude.{slice_index_or}
 use Rattle.std.specs.Prelude.{Option, None, Some}

@@ -1,11 +1,13 @@
 //! The lists.
 
-ghost use Rattle.std.specs.Prelude.{◌≡◌, ◌≢◌, ℕ, ◌+◌, ◌*◌, ◌<◌, ◌≤◌, max, List, [], ◌∷◌, ◌++◌, length, OnOk};
+ghost use Rattle.std.specs.Prelude.{◌≡◌, ◌≢◌, ℕ, ◌+◌, ◌*◌, ◌<◌, ◌≤◌, max, List, [], ◌∷◌, ◌++◌};
+ghost use Rattle.std.specs.Prelude.{length, OnOk};
 ghost use Rattle.std.specs.Prelude.{OnErr};
 ghost use Rattle.std.specs.Option.{option_map};
 ghost use Rattle.sat_base.specs.Lit.{variable};
 ghost use Rattle.watch_ring.specs.Link.{pair_of, number_of};
-ghost use Rattle.watch_ring.specs.Ring.{AreDisjoint, list_of, StandsNowhere, StandsAfter, first_of, without};
+ghost use Rattle.watch_ring.specs.Ring.{AreDisjoint, list_of, StandsNowhere, StandsAfter};
+ghost use Rattle.watch_ring.specs.Ring.{first_of, without};
 ghost use Rattle.watch_ring.specs.Layout.{IsExtended};
 
 use crate::link::Link;
@@ -84,7 +86,8 @@ impl WatchRing {
         requires side { side < 2 }
         requires nowhere { StandsNowhere self.old (2 * id + side) }
         ensures front { list_of self.new lit ≡ (2 * id + side) ∷ list_of self.old lit }
-        ensures others { (other : ℕ) → other ≢ lit → list_of self.new other ≡ list_of self.old other }
+        ensures others { (other : ℕ) → other ≢ lit
+            → list_of self.new other ≡ list_of self.old other }
         ensures vars { self.new.vars ≡ self.old.vars }
         ensures clauses { self.new.clauses ≡ self.old.clauses }
     {
@@ -171,3 +174,6 @@ fn extend(links: &mut Vec<Link>, len: usize) -> Result<(), AllocError>
     }
     links.resize(len, Link::none())
 }
+
+#[cfg(test)]
+mod tests;
