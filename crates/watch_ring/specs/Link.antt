@@ -1,9 +1,8 @@
 -- Links of four bytes, and sides as pairs.
-use Rattle.std.specs.Prelude.{◌≡◌, refl, ℕ, ◌+◌, ◌*◌, ◌/◌, ◌%◌, ◌==◌, if◌then◌else◌, false}
+use Rattle.std.specs.Prelude.{◌≡◌, ◌≢◌, ℕ, ◌+◌, ◌*◌, ◌/◌, ◌%◌, ◌==◌, if◌then◌else◌, true, false}
 use Rattle.std.specs.Prelude.{Option, None, Some, ◌⊎◌}
-use Rattle.std.proofs.Common.{subst, sym, ap, inl, inr, arith}
-use Rattle.std.proofs.lemmas.Bool.Decides.{nat_tests}
-use Rattle.std.proofs.lemmas.Bool.{cases_eq}
+use Rattle.std.proofs.Common.{◌∙◌, sym, ap, inl, inr}
+use Rattle.std.proofs.lemmas.Bool.Decides.{eqb_tells}
 
 -- the clause and the side, 0 or 1, of a number
 abbrev pub pair_of : ℕ → ℕ × ℕ
@@ -21,12 +20,12 @@ abbrev pub raw_of : Option ℕ → ℕ
 raw_of None = 4294967295
 raw_of (Some number) = number
 
+-- a link is the number that its side gives back
 pub raw_of-link_of : (raw : ℕ) → raw_of (link_of raw) ≡ raw
-raw_of-link_of raw = by (cases_eq raw 4294967295)
+raw_of-link_of raw = by (eqb_tells raw 4294967295)
   where
-    differs : (raw ≡ 4294967295 → ⊥) → (raw == 4294967295) ≡ false
-    differs n = grind (arith, nat_tests)
-
-    by : (raw ≡ 4294967295) ⊎ (raw ≡ 4294967295 → ⊥) → raw_of (link_of raw) ≡ raw
-    by (inl e) = subst (λ n. raw_of (link_of n) ≡ n) (sym e) refl
-    by (inr n) = ap (λ b. raw_of (if b then None else Some raw)) (differs n)
+    by : (((raw == 4294967295) ≡ true) × (raw ≡ 4294967295))
+        ⊎ (((raw == 4294967295) ≡ false) × (raw ≢ 4294967295))
+        → raw_of (link_of raw) ≡ raw
+    by (inl e) = ap (λ b. raw_of (if b then None else Some raw)) e.0 ∙ sym e.1
+    by (inr e) = ap (λ b. raw_of (if b then None else Some raw)) e.0
