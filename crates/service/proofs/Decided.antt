@@ -1,5 +1,5 @@
 -- The answer of the tests is right.
-use Rattle.std.proofs.Common.{◌≡◌, ◌∙◌, ℕ, ◌≤◌, List, [], ◌∷◌, ◌++◌, refl, sym, ap, subst, inl, inr, arith, append_assoc}
+use Rattle.std.proofs.Common.{◌≡◌, ◌∙◌, ℕ, ◌≤◌, List, [], ◌∷◌, ◌++◌, true, refl, sym, ap, subst, inl, inr, arith, append_assoc}
 use Rattle.std.specs.Prelude.{Contains, ◌⊎◌}
 use Rattle.std.proofs.lemmas.List.Elements.{All-nil, All-append}
 use Rattle.sat_base.specs.Lit.{opposite}
@@ -49,7 +49,7 @@ flips lit has = by (one_of_two lit has)
     by (inl same) = subst (λ x. Contains both_literals (opposite x)) (sym same) has_three
     by (inr same) = subst (λ x. Contains both_literals (opposite x)) (sym same) has_two
 
-pub is_right : (journal : List Entry) (job : ℕ) → cube_of journal job ≡ both_literals → IsRightAnswer journal job contradiction
+pub is_right : (journal : List Entry) (job : ℕ) → cube_of journal job ≡ both_literals → IsRightAnswer true journal job contradiction
 is_right journal job is = (
   record {
     within = All-from_members (Contains (cube_of journal job)) both_literals (λ lit has. subst (λ cube. Contains cube lit) (sym is) has);

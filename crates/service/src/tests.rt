@@ -159,6 +159,9 @@ fn end(board: &mut Board, caller: u32, job: u32, attempt: u32, answer: &Arc<Answ
     let Ok(copy) = answer.clone() else {
         return board.starve(caller, attempt).is_ok();
     };
+    if !board.rules().traces {
+        return board.starve(caller, attempt).is_ok();
+    }
     if !is_contradictory(board, job) {
         return board.starve(caller, attempt).is_ok();
     }
