@@ -52,8 +52,8 @@ impl Board {
     /// Ends an attempt with an answer.
     pub fn decide(&mut self, caller: u32, attempt: u32, answer: Arc<Answer>) -> Result<(), Late>
         requires own { IsOwn self.old caller attempt }
-        requires right { IsRightAnswer self.old.rules.traces self.old.journal (job_at self.old attempt)
-            (arc_value answer) }
+        requires right { IsRightAnswer self.old.rules.traces self.old.journal
+            (job_at self.old attempt) (arc_value answer) }
         ensures ok { OnOk result
             (self.new ≡ entered self.old caller (event.Decided attempt answer)) }
         ensures in_time { OnOk result

@@ -1,6 +1,7 @@
 //! The program `tarmo`: makes the real source and sink, calls the run and ends with its status.
 //!
-//! Everything that the program promises is the contract of `run_alone`. It knows no text and no answer.
+//! Everything that the program promises is the contract of `run_alone`. It knows no text and no
+//! answer.
 #![tactic(auto)]
 
 use run_io::{StdSink, StdSource};
