@@ -30,7 +30,7 @@ pub(crate) fn measure(rt: &HostRuntime, vars: Option<u32>, calls: Option<u32>) -
     let mut hints = 0u64;
     let start = rt.process_cpu_time()?;
     for _ in 0..calls {
-        let learnt = learn_once(alloc, &mut scratch, &conflict, vars)?;
+        let learnt = learn_once(alloc, &mut scratch, &conflict)?;
         hints = hints.saturating_add(learnt.step.hints.items().len() as u64);
     }
     let time = rt.process_cpu_time()?.saturating_sub(start);

@@ -1,7 +1,8 @@
 -- The rounds of an attempt.
-use Rattle.std.specs.Prelude.{◌≡◌, ℕ, ◌-◌, ◌≤◌, min, List, ◌++◌, length}
+use Rattle.std.specs.Prelude.{◌≡◌, ℕ, ◌-◌, ◌≤◌, Bool, min, List, ◌++◌, length}
 use Rattle.std.specs.Arc.{arc_value}
 use Rattle.sat_base.specs.Truth.{IsModelOf}
+use Rattle.entry_core.specs.declared.answers.Answer.{Answer}
 use Rattle.session.specs.declared.rounds.Round.{Round}
 use Rattle.session.specs.declared.rounds.Round.TheVariants.{Model, Refuted, Paused}
 use Rattle.session.specs.Refutations.{IsRefutation}
@@ -10,7 +11,7 @@ use Rattle.session.specs.Solving.{Keeps, Solves}
 use Rattle.worker_loop.specs.declared.attempt.Attempt.{Attempt}
 use Rattle.worker_loop.specs.declared.ends.End.{End}
 use Rattle.worker_loop.specs.declared.ends.End.TheVariants.{Answered, Spent}
-use Rattle.worker_loop.specs.Asked.{clauses_at}
+use Rattle.worker_loop.specs.Asked.{IsRightOver, clauses_at}
 
 -- a right answer, or a pause
 abbrev pub IsRightRound : Solver → List ℕ → Round → Type 0
@@ -18,6 +19,12 @@ IsRightRound solver cube (Model values) = IsModelOf (clauses_of solver.inputs) c
 IsRightRound solver cube (Refuted part number) =
     IsRefutation solver.inputs solver.steps cube part number
 IsRightRound solver cube Paused = Unit {0}
+
+-- The answer is right for each cube whose part is refuted by the own step of that number.
+abbrev pub IsRightWhereRefuted : Bool → Solver → List ℕ → ℕ → Answer → Type 0
+IsRightWhereRefuted traces solver part number answer = (cube : List ℕ)
+    → IsRefutation solver.inputs solver.steps cube part number
+    → IsRightOver traces solver.inputs cube answer
 
 -- One round of at most 256 learnt clauses, and never more than the budget leaves. The attempt
 -- lists the own steps of exactly those besides, and nothing else of it changed.

@@ -1,14 +1,15 @@
 //! Attempts.
 
-ghost use Rattle.std.specs.Prelude.{◌≡◌, ◌<◌, ◌≤◌, Bool, false, true, None, length, List, IfOk};
-ghost use Rattle.std.specs.Prelude.{IfSome, OnOk};
+ghost use Rattle.std.specs.Prelude.{◌≡◌, ◌<◌, ◌≤◌, Bool, None, length, List, IfOk, IfSome, IsSome};
+ghost use Rattle.std.specs.Prelude.{OnOk};
+ghost use Rattle.trace_core.specs.Known.{item_at};
 ghost use Rattle.entry_core.specs.declared.entries.Entry.{Entry};
 ghost use Rattle.session.specs.declared.rounds.Round.TheVariants.{Paused};
-ghost use Rattle.session.specs.Refutations.{IsRefutation};
 ghost use Rattle.session.specs.Solving.{Keeps};
-ghost use Rattle.worker_loop.specs.Asked.{IsEndOver, IsRightOver};
+ghost use Rattle.worker_loop.specs.Asked.{IsEndOver};
 ghost use Rattle.worker_loop.specs.Fits.{AreLearnt, FitsAttempt, FitsLegal};
 ghost use Rattle.worker_loop.specs.Rounds.{HasLearntOn, IsOfLearnt, IsRightRound};
+ghost use Rattle.worker_loop.specs.Rounds.{IsRightWhereRefuted};
 
 use crate::attempt::Attempt;
 use crate::bench::Bench;
@@ -84,7 +85,7 @@ pub(crate) fn end_of(
             Ok(Some(End::Answered(answer)))
         }
         Round::Refuted(part, number) => {
-            let answer = refutation(alloc, bench, &attempt.cube, part, number, traces)?;
+            let answer = refutation(alloc, bench, part, number, traces)?;
             Ok(Some(End::Answered(Arc::new(alloc, answer)?)))
         }
         Round::Paused => spent(alloc, bench, attempt, budget),
@@ -115,54 +116,26 @@ fn spent(
     Ok(Some(End::Spent(Arc::new(alloc, copies)?)))
 }
 
-// The refuted part, with its trace where traces are kept.
+// The refuted part, with its trace where traces are kept: what the own step of its negation rests
+// on, out of the packets that were read and the session's own steps. It takes the time of those
+// steps and hints, times the logarithm of their number, and none for the other steps of the
+// session. Where traces aren't kept, nothing is trimmed: there is one, since the own steps are ok.
 fn refutation(
     alloc: Global,
     bench: &Bench,
-    cube: &Cube,
     part: Cube,
     number: u64,
     traces: bool,
 ) -> Result<Answer, AllocError>
     requires fits { FitsLegal bench.now }
-    requires refuted { IsRefutation bench.now.session.solver.inputs
-        bench.now.session.solver.steps cube.now part number }
-    ensures { IfOk result (IsRightOver traces bench.now.session.solver.inputs cube.now) }
-{
-    if traces {
-        return traced(alloc, bench, cube, part, number);
-    }
-    Ok(untraced(alloc, bench, cube, part, number))
-}
-
-// The refuted part with its trace: what the own step of its negation rests on, out of the packets
-// that were read and the session's own steps. It takes the time of those steps and hints, times
-// the logarithm of their number, and none for the other steps of the session.
-fn traced(
-    alloc: Global,
-    bench: &Bench,
-    cube: &Cube,
-    part: Cube,
-    number: u64,
-) -> Result<Answer, AllocError>
-    requires fits { FitsLegal bench.now }
-    requires refuted { IsRefutation bench.now.session.solver.inputs
-        bench.now.session.solver.steps cube.now part number }
-    ensures { IfOk result (IsRightOver true bench.now.session.solver.inputs cube.now) }
-{
-    let steps = trim(alloc, &bench.packets, bench.session.steps(), number)?;
-    Ok(Answer::Refuted(part, Steps::of(steps)))
-}
-
-// The refuted part without its trace, which exists since the session's own steps are ok: nothing is
-// trimmed and nothing is kept.
-fn untraced(alloc: Global, bench: &Bench, cube: &Cube, part: Cube, number: u64) -> Answer
-    requires fits { FitsLegal bench.now }
-    requires refuted { IsRefutation bench.now.session.solver.inputs
-        bench.now.session.solver.steps cube.now part number }
-    ensures { IsRightOver false bench.now.session.solver.inputs cube.now result }
+    requires there { IsSome (item_at bench.now.session.solver.steps number) }
+    ensures { IfOk result (IsRightWhereRefuted traces bench.now.session.solver part number) }
 {
     // What every session keeps is told with its steps.
-    let _ = bench.session.steps();
-    Answer::Refuted(part, Steps::of(Vec::new(alloc)))
+    let own = bench.session.steps();
+    if !traces {
+        return Ok(Answer::Refuted(part, Steps::of(Vec::new(alloc))));
+    }
+    let steps = trim(alloc, &bench.packets, own, number)?;
+    Ok(Answer::Refuted(part, Steps::of(steps)))
 }

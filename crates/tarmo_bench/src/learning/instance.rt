@@ -1,6 +1,6 @@
 //! A text, its conflict, and what that teaches.
 
-ghost use Rattle.std.specs.Prelude.{◌≡◌, ◌≤◌, IfOk, IfSome, IsTrue};
+ghost use Rattle.std.specs.Prelude.{◌≡◌, ◌≤◌, ℕ, IfOk, IfSome, IsTrue};
 ghost use Rattle.sat_base.specs.Limits.{greatest_variable};
 ghost use Rattle.propagate.specs.Store.{AreWithin};
 ghost use Rattle.tarmo_bench.specs.Prepared.{IsPrepared};
@@ -113,10 +113,8 @@ pub fn learn_once(
     alloc: Global,
     scratch: &mut Scratch,
     conflict: &Conflict,
-    vars: u32,
 ) -> Result<Learnt, AllocError>
-    requires prepared { IsPrepared conflict.now vars }
-    requires room { vars ≤ scratch.old }
+    requires prepared { (vars : ℕ) × IsPrepared conflict.now vars × (vars ≤ scratch.old) }
     ensures { scratch.new ≡ scratch.old }
 {
     learn(
