@@ -136,6 +136,9 @@ finished_in_line trace ending left_before left_after ended failed old new before
           ∙ ap (appended before)
           (sym (take-append-add took.blocks (last_line_of front.told) front.size));
       begun = begun_still reading old.board new more reads.through.begun;
+      all = told_unless ending front.told (reads.through.begun.left ≡ []) front.which
+          (unless ending ((reads.through.begun.left ≡ []) × HasAllBlocks old.writer old.board)
+          (reads.through.begun.left ≡ []) (λ done. done.0) reads.through.all);
     }
 
 pub finished_in_blocks : (trace : Bool) (left_before left_after : Option (List ℕ))
@@ -161,6 +164,7 @@ finished_in_blocks trace left_before left_after ended failed board before after 
       taken = front.taken ∙ ap (appended before)
           (sym (take-append-le front.size front.blocks (last_line_of Exhausted) front.within));
       begun = reads.begun;
+      all = tt;
     }
 
 put_first : (reading : Reading) (board : State) (begun : AsksFirst reading board) →
@@ -238,6 +242,7 @@ ran_in_part command left_before left_after ended failed old new before after sta
         told = told;
         left = begun.left;
         put = put_first reading new begun;
+        all_put = f.all;
         all_settled = settled;
       });
     }

@@ -40,3 +40,4 @@ pub record FinishedInPart (trace : Bool) (left_before left_after : Option (List 
   pub size : ℕ
   pub taken : after ≡ appended before (take size text)
   pub begun : AsksFirst (record { bytes = bytes; ended = ended; failed = failed }) board
+  pub all : UnlessExhausted ending (begun.left ≡ [])

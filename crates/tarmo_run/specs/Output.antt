@@ -154,8 +154,9 @@ pub record WroteAll (trace : Bool) (reading : Reading) (board : State)
   pub all_settled : UnlessExhausted ending (AreSettled board)
   pub none_cancelled : cancelled board.journal ≡ []
 
--- The sink failed: it took a front of an output. The board's jobs are the text's first queries, and
--- each is settled, if only by being cancelled.
+-- The sink failed: it took a front of an output. The board's jobs are the text's queries, its first
+-- ones where the output is one of a run whose memory ran out, and each is settled, if only by being
+-- cancelled.
 pub record WroteFront (trace : Bool) (reading : Reading) (board : State)
     (before after : Option (List ℕ)) (status : ℕ) : Type 0 where
   pub ending : Ending
@@ -166,6 +167,7 @@ pub record WroteFront (trace : Bool) (reading : Reading) (board : State)
   pub told : status ≡ 4
   pub left : List Job
   pub put : PutFirst board.journal (queries_in reading.bytes reading.ended) left
+  pub all_put : UnlessExhausted ending (left ≡ [])
   pub all_settled : AreSettled board
 
 -- A run over a board, which it gives back: with the rules of the words and a legal journal.

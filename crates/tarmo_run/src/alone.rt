@@ -88,6 +88,7 @@ pub fn run_alone<S: Source, O: Sink>(
         board.rules.conflicts
         ≤ 3 ^ variables (clauses_of board.journal job) (cube_of board.journal job)) }
     ensures closed { IfSome result.board (λ board. is_closed board.journal ≡ true) }
+    ensures unstarted { result.board ≡ None → source.new ≡ source.old }
     ensures whole { S.ended source.new ≡ true → IsEmptyWhereTold (S.left source.new) }
 
     ensures complete { (command : Command) (text : List ℕ) →
