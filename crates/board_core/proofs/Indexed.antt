@@ -67,6 +67,40 @@ bounded {X} read number journal entry most more le all new =
     one (Some x) is zero d lt = new x is
     one (Some x) is (suc k) d lt = absurd (omega arith)
 
+-- what a reading of ends gives is the attempt that ends
+pub spent_ends : (happened : Event) (n : ℕ) → spent_by happened ≡ Some n → ended_by happened ≡ Some n
+spent_ends (event.Spent number learnt) n is = is
+spent_ends (event.Added segment) n is = absurd (cc)
+spent_ends event.Closed n is = absurd (cc)
+spent_ends (event.Cancelled job) n is = absurd (cc)
+spent_ends (event.Began job number) n is = absurd (cc)
+spent_ends (event.Shared packet) n is = absurd (cc)
+spent_ends (event.Dropped number) n is = absurd (cc)
+spent_ends (event.Decided number given) n is = absurd (cc)
+spent_ends (event.Starved number) n is = absurd (cc)
+
+pub starved_ends : (happened : Event) (n : ℕ) → starved_by happened ≡ Some n → ended_by happened ≡ Some n
+starved_ends (event.Starved number) n is = is
+starved_ends (event.Added segment) n is = absurd (cc)
+starved_ends event.Closed n is = absurd (cc)
+starved_ends (event.Cancelled job) n is = absurd (cc)
+starved_ends (event.Began job number) n is = absurd (cc)
+starved_ends (event.Shared packet) n is = absurd (cc)
+starved_ends (event.Dropped number) n is = absurd (cc)
+starved_ends (event.Decided number given) n is = absurd (cc)
+starved_ends (event.Spent number learnt) n is = absurd (cc)
+
+pub decided_ends : (happened : Event) (d : Decision) → decision_of happened ≡ Some d → ended_by happened ≡ Some d.number
+decided_ends (event.Decided number given) d is = ap Some (ap (λ (x : Decision). x.number) (same_Some (record { number = number; given = given }) d is))
+decided_ends (event.Starved number) d is = absurd (cc)
+decided_ends (event.Added segment) d is = absurd (cc)
+decided_ends event.Closed d is = absurd (cc)
+decided_ends (event.Cancelled job) d is = absurd (cc)
+decided_ends (event.Began job number) d is = absurd (cc)
+decided_ends (event.Shared packet) d is = absurd (cc)
+decided_ends (event.Dropped number) d is = absurd (cc)
+decided_ends (event.Spent number learnt) d is = absurd (cc)
+
 -- after an entry that begins no attempt, and ends only one that was begun
 pub orderly_on : (journal : List Entry) (entry : Entry) → IsOrderly journal → begun_by entry.caller entry.event ≡ None
     → ((number : ℕ) → ended_by entry.event ≡ Some number → number ≤ length (attempts journal)) → IsOrderly (journal ++ entry ∷ [])
@@ -80,39 +114,6 @@ orderly_on journal entry orderly none ends =
       decided = bounded (λ (e : Entry). decision_of e.event) (λ (d : Decision). d.number) journal entry _ _ le orderly.decided (λ d is. let k = ends d.number (decided_ends entry.event d is) in omega arith);
       starved = bounded (λ (e : Entry). starved_by e.event) (λ n. n) journal entry _ _ le orderly.starved (λ n is. let k = ends n (starved_ends entry.event n is) in omega arith);
     }
-  where
-    spent_ends : (happened : Event) (n : ℕ) → spent_by happened ≡ Some n → ended_by happened ≡ Some n
-    spent_ends (event.Spent number learnt) n is = is
-    spent_ends (event.Added segment) n is = absurd (cc)
-    spent_ends event.Closed n is = absurd (cc)
-    spent_ends (event.Cancelled job) n is = absurd (cc)
-    spent_ends (event.Began job number) n is = absurd (cc)
-    spent_ends (event.Shared packet) n is = absurd (cc)
-    spent_ends (event.Dropped number) n is = absurd (cc)
-    spent_ends (event.Decided number given) n is = absurd (cc)
-    spent_ends (event.Starved number) n is = absurd (cc)
-
-    starved_ends : (happened : Event) (n : ℕ) → starved_by happened ≡ Some n → ended_by happened ≡ Some n
-    starved_ends (event.Starved number) n is = is
-    starved_ends (event.Added segment) n is = absurd (cc)
-    starved_ends event.Closed n is = absurd (cc)
-    starved_ends (event.Cancelled job) n is = absurd (cc)
-    starved_ends (event.Began job number) n is = absurd (cc)
-    starved_ends (event.Shared packet) n is = absurd (cc)
-    starved_ends (event.Dropped number) n is = absurd (cc)
-    starved_ends (event.Decided number given) n is = absurd (cc)
-    starved_ends (event.Spent number learnt) n is = absurd (cc)
-
-    decided_ends : (happened : Event) (d : Decision) → decision_of happened ≡ Some d → ended_by happened ≡ Some d.number
-    decided_ends (event.Decided number given) d is = ap Some (ap (λ (x : Decision). x.number) (same_Some (record { number = number; given = given }) d is))
-    decided_ends (event.Starved number) d is = absurd (cc)
-    decided_ends (event.Added segment) d is = absurd (cc)
-    decided_ends event.Closed d is = absurd (cc)
-    decided_ends (event.Cancelled job) d is = absurd (cc)
-    decided_ends (event.Began job number) d is = absurd (cc)
-    decided_ends (event.Shared packet) d is = absurd (cc)
-    decided_ends (event.Dropped number) d is = absurd (cc)
-    decided_ends (event.Spent number learnt) d is = absurd (cc)
 
 numbered_push : (begun : List Attempt) (new : Attempt) (first : ℕ) → AreNumberedFrom first begun → new.number ≡ first + length begun → AreNumberedFrom first (begun ++ new ∷ [])
 numbered_push [] new first numbered is = (is ∙ omega arith, tt)

@@ -38,6 +38,11 @@ pub record IsUnsettled (board : State) (job : ℕ) : Type 0 where
   pub there : IsJob board job
   pub unsettled : settled board.rules board.journal job ≡ None
 
+-- a settled job
+pub record IsSettled (board : State) (job : ℕ) : Type 0 where
+  pub there : IsJob board job
+  pub settled_job : IsSome (settled board.rules board.journal job)
+
 -- a settled job and the outcome of its verdict
 pub record HasOutcome (board : State) (job : ℕ) (outcome : Outcome) : Type 0 where
   pub there : IsJob board job
@@ -72,7 +77,7 @@ IsLookFault board job look.NotYet = IsUnsettled board job
 abbrev pub IsAskFault : State → ℕ → AskFault → Type 0
 IsAskFault board job (ask.NoSuchJob number) = IsNoJob board job number
 IsAskFault board job ask.NotYet = IsUnsettled board job
-IsAskFault board job ask.Memory = Unit {0}
+IsAskFault board job ask.Memory = IsSettled board job
 
 abbrev pub IsCancelFault : State → ℕ → CancelFault → Type 0
 IsCancelFault board job (cancel.NoSuchJob number) = IsNoJob board job number
@@ -80,7 +85,7 @@ IsCancelFault board job (cancel.Settled outcome) = HasOutcome board job outcome
 
 abbrev pub IsShareFault : State → ShareFault → Type 0
 IsShareFault board share.Full = length (packets board.journal) ≡ most_packets
-IsShareFault board share.Memory = Unit {0}
+IsShareFault board share.Memory = length (packets board.journal) < most_packets
 
 -- no job too many, no clause too many
 pub record HasRoomForJob (board : State) : Type 0 where

@@ -3,7 +3,7 @@
 ghost use Rattle.std.specs.Prelude.{◌≡◌, ◌+◌, ◌<◌, ℕ, length, IfOk, OnOk, OnErr, IfErr};
 ghost use Rattle.std.specs.Arc.{arc_value};
 ghost use Rattle.entry_core.specs.Journal.{packets};
-ghost use Rattle.entry_core.specs.Schedule.{IsWaiting};
+ghost use Rattle.entry_core.specs.Schedule.{IsNext, IsWaiting};
 ghost use Rattle.entry_core.specs.Legal.{IsWorker, IsShareable};
 ghost use Rattle.entry_core.specs.declared.entries.Event.TheVariants as event;
 ghost use Rattle.board_core.specs.State.{entered};
@@ -21,10 +21,12 @@ use trace_core::Packet;
 
 impl Board {
     /// Begins the next attempt, at the job of the scheduling rule, or says that there is none to
-    /// take. As many attempts as there are numbers of 32 bits are answered as want of memory.
+    /// take. Memory is wanting only where there is one. As many attempts as there are numbers of 32
+    /// bits are answered as want of memory.
     pub fn take(&mut self, caller: u32) -> Result<Task, AllocError>
         requires worker { IsWorker self.old.rules caller }
         ensures task { IfOk result (IsTask self.old self.new caller) }
+        ensures wanted { OnErr result ((job : ℕ) × IsNext self.old.rules self.old.journal job) }
         ensures err { OnErr result (self.new ≡ self.old) }
     {
         let Some(rank) = self.index.waiting.first() else {

@@ -190,25 +190,6 @@ work_cancels_none old new caller work =
     (nothing_read cancelled_by work.more no_cancel work.attempts)
     ∙ append-nil (cancelled old.journal)
 
--- an entry that neither begins nor ends an attempt leaves the open attempts
-pub rests_still : (old new : State) (entry : Entry) (caller : ℕ) →
-    new.journal ≡ old.journal ++ entry ∷ [] → begun_by entry.caller entry.event ≡ None →
-    ended_by entry.event ≡ None → IsResting old caller → IsResting new caller
-rests_still old new entry caller is begins ends resting number own =
-    let same : attempts new.journal ≡ attempts old.journal =
-    ap attempts is ∙ same_attempts old.journal entry begins in
-    let ends_same : ended new.journal ≡ ended old.journal =
-    ap ended is ∙ unread (λ (e : Entry). ended_by e.event) old.journal entry ends in
-    resting number (record {
-      begun = own.begun;
-      running = record {
-        found = ap (λ (list : List Attempt). item_at list number) (sym same) ∙ own.running.found;
-        own = own.running.own;
-        open_yet = subst (λ (list : List ℕ). IsTrue
-            (not (list_any (λ n. n == own.begun.number) list))) ends_same own.running.open_yet;
-      };
-    })
-
 -- a bench that fits a journal fits a longer one
 pub fits_longer : (bench : Bench) (old new : State) → IsLonger old new → Fits bench old.journal →
     Fits bench new.journal

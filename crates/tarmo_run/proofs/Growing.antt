@@ -10,8 +10,8 @@ use Rattle.entry_core.specs.Journal.{segment_of, segments}
 use Rattle.entry_core.specs.Settled.{cancelled, cancelled_by}
 use Rattle.board_core.specs.State.{State, entered}
 use Rattle.board_core.proofs.Readings.{unread, read_on}
+use Rattle.worker_loop.proofs.Rested.{rests_still}
 use Rattle.tarmo_run.specs.Growth.{HasJobsMore, IsLonger}
-use Rattle.tarmo_run.proofs.Boards.{rests_still}
 
 -- the entry that adds a job
 abbrev adding : Arc Segment Global → Entry
@@ -38,6 +38,5 @@ jobs_by old new segment is = record {
   none_cancelled = ap (λ (b : State). cancelled b.journal) is
       ∙ unread (λ (e : Entry). cancelled_by e.event) old.journal (adding segment) refl;
   resting = λ caller resting.
-      rests_still old new (adding segment) caller (ap (λ (b : State). b.journal) is) refl refl
-      resting;
+      rests_still old new caller 1 (event.Added segment) refl refl is resting;
 }

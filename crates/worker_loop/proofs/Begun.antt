@@ -22,6 +22,7 @@ use Rattle.board_core.specs.State.{State, entered}
 use Rattle.board_core.specs.Replies.{IsBegun, job_at}
 use Rattle.board_core.proofs.Changes.{same_segments}
 use Rattle.board_core.proofs.Readings.{unread, settled_push}
+use Rattle.board_core.proofs.Indexed.{decided_ends, spent_ends, starved_ends}
 use Rattle.board_core.proofs.Verdicts.{entry_by, count_same}
 use Rattle.worker_loop.specs.Attempts.{EndsBy}
 use Rattle.worker_loop.proofs.Rested.{begun_at}
@@ -71,39 +72,6 @@ all_begun read number_of rules journal legal ends x has =
     let begun = ends_begun rules was.front from.0.caller from.0.event (number_of x) (ends from.0.event x from.2) was.allowed in
     subst (λ all. HasBegun all (number_of x)) was.whole (begun.0, attempt_kept was.front was.more (number_of x) begun.0 begun.1)
 
-decision_ends : (happened : Event) (d : Decision) → decision_of happened ≡ Some d → ended_by happened ≡ Some d.number
-decision_ends (event.Decided number given) d is = ap Some (ap (λ (x : Decision). x.number) (same_Some (record { number = number; given = given }) d is))
-decision_ends (event.Starved number) d is = absurd (cc)
-decision_ends (event.Added segment) d is = absurd (cc)
-decision_ends event.Closed d is = absurd (cc)
-decision_ends (event.Cancelled job) d is = absurd (cc)
-decision_ends (event.Began job number) d is = absurd (cc)
-decision_ends (event.Shared packet) d is = absurd (cc)
-decision_ends (event.Dropped number) d is = absurd (cc)
-decision_ends (event.Spent number learnt) d is = absurd (cc)
-
-spent_ends : (happened : Event) (n : ℕ) → spent_by happened ≡ Some n → ended_by happened ≡ Some n
-spent_ends (event.Spent number learnt) n is = is
-spent_ends (event.Added segment) n is = absurd (cc)
-spent_ends event.Closed n is = absurd (cc)
-spent_ends (event.Cancelled job) n is = absurd (cc)
-spent_ends (event.Began job number) n is = absurd (cc)
-spent_ends (event.Shared packet) n is = absurd (cc)
-spent_ends (event.Dropped number) n is = absurd (cc)
-spent_ends (event.Decided number given) n is = absurd (cc)
-spent_ends (event.Starved number) n is = absurd (cc)
-
-starved_ends : (happened : Event) (n : ℕ) → starved_by happened ≡ Some n → ended_by happened ≡ Some n
-starved_ends (event.Starved number) n is = is
-starved_ends (event.Added segment) n is = absurd (cc)
-starved_ends event.Closed n is = absurd (cc)
-starved_ends (event.Cancelled job) n is = absurd (cc)
-starved_ends (event.Began job number) n is = absurd (cc)
-starved_ends (event.Shared packet) n is = absurd (cc)
-starved_ends (event.Dropped number) n is = absurd (cc)
-starved_ends (event.Decided number given) n is = absurd (cc)
-starved_ends (event.Spent number learnt) n is = absurd (cc)
-
 -- the first case that stands, of five
 abbrev five : Option Verdict → Bool → Bool → Bool → Option Verdict → Option Verdict
 five answer cancel spent starve over =
@@ -133,7 +101,7 @@ same_cases rules journal caller job number other legal =
     stays n begun = attempt_kept journal (entry_by caller (event.Began job number) ∷ []) n begun.0 begun.1 ∙ sym begun.1
 
     decided : (d : Decision) → Contains (decisions journal) d → HasBegun journal d.number
-    decided = all_begun decision_of (λ (d : Decision). d.number) rules journal legal decision_ends
+    decided = all_begun decision_of (λ (d : Decision). d.number) rules journal legal decided_ends
 
     answers : answer_to (journal ++ entry_by caller (event.Began job number) ∷ []) other ≡ answer_to journal other
     answers =
