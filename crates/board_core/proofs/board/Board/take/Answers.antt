@@ -1,4 +1,5 @@
 use Rattle.std.proofs.Common.{◌∙◌, ◌+◌, ◌-◌, ◌≤◌, [], ◌∷◌, ◌++◌, length, slice_set, vec_len, vec_capacity, refl, sym, subst, ap, arith}
+use Rattle.std.specs.Prelude.{Result, Ok, Err, OnErr}
 use Rattle.entry_core.specs.Attempts.{attempts}
 use Rattle.entry_core.specs.Schedule.{IsWaiting, IsNext}
 use Rattle.entry_core.specs.Legal.{IsWorker}
@@ -59,6 +60,32 @@ invariant_of-self-2 c =
     (c.push_reserved-2.ensures.items ∙ ap (λ xs. xs ++ c.in-Some.rank.job ∷ []) c.reserve.ensures.items)
     (c.put.ensures.jobs ∙ ap (λ (s : JobState). slice_set c.self.inside.index.jobs.items (c.in-Some.rank.job - 1) (record s { open_now = s.open_now + 1 })) before)
     (c.put.ensures.waiting ∙ ap (λ (s : JobState). slice_set c.self.inside.index.waiting (c.in-Some.rank.job - 1) (rank_of c.self.inside.rules.attempts c.in-Some.rank.job (record s { open_now = s.open_now + 1 }))) before)
+
+-- what holds anyway holds of an error
+on_err : {T E : Type 0} (answer : Result T E) (P : Type 0) → P → OnErr answer P
+on_err (Ok value) P holds = tt
+on_err (Err why) P holds = holds
+
+pub returns-then-begun-clause-wanted : goal.returns-then-begun-clause-wanted
+returns-then-begun-clause-wanted c = (
+  c.in-Some.rank.job,
+  subst (λ (board : State). IsNext board.rules board.journal c.in-Some.rank.job) c.self.view_is
+      (first_taken c.self.inside c.in-Some.rank c.first.result c.self.invariant c.first.ensures c.in-Some.is),
+)
+
+pub returns-in_err-reserve-clause-wanted : goal.returns-in_err-reserve-clause-wanted
+returns-in_err-reserve-clause-wanted c = on_err c.from_residual.result _ (
+  c.in-Some.rank.job,
+  subst (λ (board : State). IsNext board.rules board.journal c.in-Some.rank.job) c.self.view_is
+      (first_taken c.self.inside c.in-Some.rank c.first.result c.self.invariant c.first.ensures c.in-Some.is),
+)
+
+pub returns-in_err-reserve-2-clause-wanted : goal.returns-in_err-reserve-2-clause-wanted
+returns-in_err-reserve-2-clause-wanted c = on_err c.from_residual-in_err-reserve-2.result _ (
+  c.in-Some.rank.job,
+  subst (λ (board : State). IsNext board.rules board.journal c.in-Some.rank.job) c.self.view_is
+      (first_taken c.self.inside c.in-Some.rank c.first.result c.self.invariant c.first.ensures c.in-Some.is),
+)
 
 pub returns-clause-task : goal.returns-clause-task
 returns-clause-task c =
