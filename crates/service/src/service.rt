@@ -118,6 +118,7 @@ impl Service {
         } = self;
         drop(bell);
         let board = lock.close(clients, workers);
+        // A board tells that its journal is legal.
         let _ = board.journal();
         board
     }
