@@ -13,7 +13,7 @@ use Rattle.trail_core.specs.Trail.{Entry, StandsAt, entry_at}
 use Rattle.analyze.specs.Graph.{IsPlaceOf, level_at}
 use Rattle.analyze.specs.Seen.{Agree, AreDistinct, AreAllSeen, HasGrown}
 use Rattle.analyze.specs.FirstUip.{IsResolvable, IsShownBy}
-use Rattle.analyze.specs.Cut.{MayStay, MayGo, IsPrepared, IsDeepFor, AddsLittle, IsCut}
+use Rattle.analyze.specs.Cut.{MayStay, MayGo, IsPrepared, IsDeepFor, AddsLittle, IsNeeded, StaysNeeded, IsCut}
 use Rattle.analyze.specs.declared.classify.Rule.{Rule}
 use Rattle.analyze.specs.declared.classify.Rule.TheVariants.{Learning, Refuting}
 use Rattle.trace_core.proofs.Items.{nothing_in}
@@ -30,6 +30,7 @@ cut_start clauses entries depth rule old kept resolved no_kept no_resolved prepa
   resolved_from = λ place has. nothing_in place (subst (λ (xs : List ℕ). Contains xs place) no_resolved has);
   apart = λ place has other. nothing_in place (subst (λ (xs : List ℕ). Contains xs place) no_kept has);
   stays = λ place has. nothing_in place (subst (λ (xs : List ℕ). Contains xs place) no_kept has);
+  needed = λ place has. nothing_in place (subst (λ (xs : List ℕ). Contains xs place) no_kept has);
   resolvable = λ place has. nothing_in place (subst (λ (xs : List ℕ). Contains xs place) no_resolved has);
   gone = λ place has. nothing_in place (subst (λ (xs : List ℕ). Contains xs place) no_resolved has);
   shown = λ place has. inl has;
@@ -49,6 +50,7 @@ pub cut_keep : (clauses : List ArenaClause) (entries : List Entry) (depth : ℕ)
     (old handled handled' analyzed kept kept' resolved : List ℕ) (place : ℕ)
     → OneMore handled handled' place → kept' ≡ kept ++ place ∷ []
     → (0 < level_at entries place) × MayStay entries depth rule place
+    × StaysNeeded clauses entries rule analyzed place
     → IsCut clauses entries depth rule old handled analyzed kept resolved
     → IsCut clauses entries depth rule old handled' analyzed kept' resolved
 cut_keep clauses entries depth rule old handled handled' analyzed kept kept' resolved place one
@@ -61,6 +63,7 @@ cut_keep clauses entries depth rule old handled handled' analyzed kept kept' res
       resolved_from = λ other has. one.still other (cut.resolved_from other has);
       apart = λ other has away. separate other (Contains-push_cases kept place other has) away;
       stays = λ other has. stay other (Contains-push_cases kept place other has);
+      needed = λ other has. need other (Contains-push_cases kept place other has);
       resolvable = cut.resolvable;
       gone = cut.gone;
       shown = cut.shown;
@@ -87,7 +90,57 @@ cut_keep clauses entries depth rule old handled handled' analyzed kept kept' res
 
     stay : (other : ℕ) → Contains kept other ⊎ (place ≡ other) → (0 < level_at entries other) × MayStay entries depth rule other
     stay other (inl before) = cut.stays other before
-    stay other (inr same) = subst (λ k. (0 < level_at entries k) × MayStay entries depth rule k) same stays
+    stay other (inr same) = subst (λ k. (0 < level_at entries k) × MayStay entries depth rule k) same (stays.0, stays.1)
+
+    need : (other : ℕ) → Contains kept other ⊎ (place ≡ other) → StaysNeeded clauses entries rule analyzed other
+    need other (inl before) = cut.needed other before
+    need other (inr same) = subst (StaysNeeded clauses entries rule analyzed) same stays.2
+
+-- for learning only places of level 0 are seen besides
+abbrev pub AddsLow : List Entry → Rule → List ℕ → List ℕ → Type 0
+AddsLow entries (Learning point) analyzed analyzed' = (place : ℕ) → Contains analyzed' place → Contains analyzed place ⊎ (level_at entries place ≡ 0)
+AddsLow entries Refuting analyzed analyzed' = Unit {0}
+
+pub adds_none : (entries : List Entry) (rule : Rule) (analyzed : List ℕ) → AddsLow entries rule analyzed analyzed
+adds_none entries (Learning point) analyzed = λ place has. inl has
+adds_none entries Refuting analyzed = tt
+
+pub adds_low : (entries : List Entry) (rule : Rule) (analyzed analyzed' clause : List ℕ)
+    → AddsLittle entries rule analyzed clause
+    → ((k : ℕ) → Contains analyzed' k → Contains analyzed k ⊎ IsPlaceOf entries clause k)
+    → AddsLow entries rule analyzed analyzed'
+adds_low entries (Learning point) analyzed analyzed' clause little added = λ place has. by_origin place (added place has)
+  where
+    by_origin : (place : ℕ) → Contains analyzed place ⊎ IsPlaceOf entries clause place → Contains analyzed place ⊎ (level_at entries place ≡ 0)
+    by_origin place (inl has) = inl has
+    by_origin place (inr of) = little of.lit of.stands place of.at
+adds_low entries Refuting analyzed analyzed' clause little added = tt
+
+unseen_keeps : (entries : List Entry) (analyzed analyzed' : List ℕ) (other : ℕ) → 0 < level_at entries other → (Contains analyzed other → ⊥)
+    → Contains analyzed other ⊎ (level_at entries other ≡ 0) → ⊥
+unseen_keeps entries analyzed analyzed' other above unseen (inl has) = unseen has
+unseen_keeps entries analyzed analyzed' other above unseen (inr low) = absurd (omega (arith, above, low))
+
+-- what is needed stays so where only places of level 0 are seen besides
+needed_keeps : (clauses : List ArenaClause) (entries : List Entry) (rule : Rule) (analyzed analyzed' : List ℕ) (place : ℕ)
+    → AddsLow entries rule analyzed analyzed' → StaysNeeded clauses entries rule analyzed place → StaysNeeded clauses entries rule analyzed' place
+needed_keeps clauses entries (Learning point) analyzed analyzed' place low needed = by_kind needed
+  where
+    by_need : IsNeeded clauses entries analyzed place → IsNeeded clauses entries analyzed' place
+    by_need (inl free) = inl free
+    by_need (inr has) = inr (record {
+      id = has.id;
+      reason = has.reason;
+      other = has.other;
+      of = has.of;
+      above = has.above;
+      unseen = λ now. unseen_keeps entries analyzed analyzed' has.other has.above has.unseen (low has.other now);
+    })
+
+    by_kind : (place ≡ point) ⊎ IsNeeded clauses entries analyzed place → (place ≡ point) ⊎ IsNeeded clauses entries analyzed' place
+    by_kind (inl same) = inl same
+    by_kind (inr need) = inr (by_need need)
+needed_keeps clauses entries Refuting analyzed analyzed' place low needed = tt
 
 pub cut_resolve : (clauses : List ArenaClause) (entries : List Entry) (depth : ℕ) (rule : Rule)
     (old handled handled' analyzed analyzed' kept resolved resolved' : List ℕ) (place : ℕ)
@@ -99,10 +152,11 @@ pub cut_resolve : (clauses : List ArenaClause) (entries : List Entry) (depth : �
     × (other < length entries)))
     → MayGo rule place → (level_at entries place ≡ 0) ⊎ IsResolvable clauses entries analyzed' place
     → IsPrepared clauses entries depth rule analyzed'
+    → AddsLow entries rule analyzed analyzed'
     → IsCut clauses entries depth rule old handled analyzed kept resolved
     → IsCut clauses entries depth rule old handled' analyzed' kept resolved'
 cut_resolve clauses entries depth rule old handled handled' analyzed analyzed' kept resolved
-    resolved' place one pushed among keeps added may can prepared cut =
+    resolved' place one pushed among keeps added may can prepared low cut =
     subst (λ (rs : List ℕ). IsCut clauses entries depth rule old handled' analyzed' kept rs)
     (sym pushed) (record {
       still = λ other has. keeps other (cut.still other has);
@@ -111,6 +165,7 @@ cut_resolve clauses entries depth rule old handled handled' analyzed analyzed' k
       resolved_from = λ other has. from other (Contains-push_cases resolved place other has);
       apart = λ other has away. separate other has (Contains-push_cases resolved place other away);
       stays = cut.stays;
+      needed = λ other has. needed_keeps clauses entries rule analyzed analyzed' other low (cut.needed other has);
       resolvable = λ other has. resolve other (Contains-push_cases resolved place other has);
       gone = λ other has. go other (Contains-push_cases resolved place other has);
       shown = λ other has. show other (added other has);
@@ -254,7 +309,8 @@ cut_imply clauses entries depth rule old handled handled' analyzed analyzed' kep
     (λ other has. shown other (grown.added other has)) may
     (inr (record { id = id; reason = reason; all_seen = all_seen }))
     (prepared_keeps clauses entries depth rule analyzed analyzed' (clause_at clauses id).lits deep
-    little keeps grown.added cut.prepared) cut
+    little keeps grown.added cut.prepared)
+    (adds_low entries rule analyzed analyzed' (clause_at clauses id).lits little grown.added) cut
   where
     keeps : (k : ℕ) → Contains analyzed k → Contains analyzed' k
     keeps = grown_keeps entries depth (IsPlaceOf entries (clause_at clauses id).lits) analyzed
@@ -288,6 +344,7 @@ cut_same clauses entries depth rule old handled analyzed kept resolved resolved'
   resolved_from = λ place has. cut.resolved_from place ((same place).0 has);
   apart = λ place has away. cut.apart place has ((same place).0 away);
   stays = cut.stays;
+  needed = cut.needed;
   resolvable = λ place has. cut.resolvable place ((same place).0 has);
   gone = λ place has. cut.gone place ((same place).0 has);
   shown = λ place has. show place (cut.shown place has);

@@ -9,10 +9,10 @@ use Rattle.sat_base.proofs.Members.{All-from_members, Contains-map, Contains-fro
 use Rattle.clause_arena.specs.Arena.{ArenaClause, clause_at, lits_of_each}
 use Rattle.trail_core.specs.Trail.{Entry, TrailView, StandsAt, IsTrail, lits_of}
 use Rattle.trail_core.specs.UnderTrail.{IsFalseLit, IsFalseClause, IsFounded, IsComplete}
-use Rattle.analyze.specs.Graph.{IsOfLevel, lit_at, level_at}
-use Rattle.analyze.specs.Learnt.{IsAsserting}
+use Rattle.analyze.specs.Graph.{IsOfLevel, IsVariableAbove, HasUnseen, lit_at, level_at}
+use Rattle.analyze.specs.Learnt.{IsAsserting, IsUnimplied, IsMinimized}
 use Rattle.analyze.specs.FirstUip.{IsResolvedFrom, IsFirstUip}
-use Rattle.analyze.specs.Cut.{MayStay, IsCut}
+use Rattle.analyze.specs.Cut.{MayStay, IsNeeded, IsCut}
 use Rattle.analyze.specs.Naming.{HasClause}
 use Rattle.analyze.specs.declared.classify.Rule.TheVariants.{Learning}
 use Rattle.analyze.proofs.Forced.{true_at}
@@ -205,3 +205,54 @@ asserting_clause trail clauses conflict point resolved_from analyzed kept resolv
             at.3;
       },
     )
+
+-- what stays below the point's level isn't implied by what else was met
+pub minimized_clause : (trail : TrailView) (clauses : List ArenaClause) (conflict point : ℕ)
+    (resolved_from analyzed kept resolved clause met : List ℕ)
+    → Taught trail clauses conflict point resolved_from analyzed kept resolved
+    → IsClauseOf clause (lit_at trail.entries) kept
+    → ((var : ℕ) → Contains met var ↔ IsVariableAbove trail.entries analyzed var)
+    → IsMinimized clauses trail.entries trail.depth met clause
+minimized_clause trail clauses conflict point resolved_from analyzed kept resolved clause met t
+    members vars lit place stands at lower = by_kind (t.cut.needed found.0 found.1)
+  where
+    found : (k : ℕ) × Contains kept k × (lit_at trail.entries k ≡ opposite lit)
+    found = kept_place trail.entries kept clause members lit stands
+
+    same : found.0 ≡ place
+    same = t.is.once (variable lit) found.0 place (record {
+      within = kept_within trail clauses conflict point resolved_from analyzed kept resolved t
+          found.0 found.1;
+      is = ap variable found.2 ∙ variable-opposite lit;
+    }) at
+
+    unmet : (need : HasUnseen clauses trail.entries analyzed place)
+        → Contains met (variable need.of.lit) → ⊥
+    unmet need has =
+        let above = (vars (variable need.of.lit)).0 has in
+        need.unseen (subst (Contains analyzed)
+        (t.is.once (variable need.of.lit) above.place need.other
+        (record { within = t.cut.within above.place above.stands; is = above.is }) need.of.at)
+        above.stands)
+
+    by_need : IsNeeded clauses trail.entries analyzed place
+        → IsUnimplied clauses trail.entries met place
+    by_need (inl free) = inl free
+    by_need (inr need) = inr (record {
+      id = need.id;
+      reason = need.reason;
+      lit = need.of.lit;
+      stands = need.of.stands;
+      other = need.other;
+      at = need.of.at;
+      above = need.above;
+      unmet = unmet need;
+    })
+
+    by_kind : (found.0 ≡ point) ⊎ IsNeeded clauses trail.entries analyzed found.0
+        → IsUnimplied clauses trail.entries met place
+    by_kind (inl is_point) =
+        let present : level_at trail.entries place ≡ trail.depth =
+        subst (λ k. level_at trail.entries k ≡ trail.depth) (sym is_point ∙ same) t.at.present in
+        absurd (omega (arith, lower, present))
+    by_kind (inr need) = by_need (subst (IsNeeded clauses trail.entries analyzed) same need)

@@ -1,11 +1,11 @@
 -- Which of the places seen stay, as literals of the clause or the part, and which are resolved
 -- away.
-use Rattle.std.specs.Prelude.{◌≡◌, ◌≢◌, ℕ, ◌<◌, ◌≤◌, ◌⊎◌, Bool, List, length, Contains, IsTrue}
-use Rattle.std.specs.Prelude.{None, Some}
+use Rattle.std.specs.Prelude.{◌≡◌, ◌≢◌, ℕ, ◌<◌, ◌≤◌, ◌⊎◌, Bool, false, List, length, Contains}
+use Rattle.std.specs.Prelude.{IsTrue, None, Some}
 use Rattle.sat_base.specs.Lit.{variable}
 use Rattle.clause_arena.specs.Arena.{ArenaClause, clause_at}
 use Rattle.trail_core.specs.Trail.{Entry, StandsAt, entry_at}
-use Rattle.analyze.specs.Graph.{level_at}
+use Rattle.analyze.specs.Graph.{HasUnseen, level_at}
 use Rattle.analyze.specs.Seen.{is_seen}
 use Rattle.analyze.specs.FirstUip.{IsResolvable, IsShownBy}
 use Rattle.analyze.specs.declared.classify.Rule.{Rule}
@@ -47,10 +47,30 @@ abbrev pub AddsNothing : List Entry → List Bool → ℕ → Type 0
 AddsNothing entries seen var = (place : ℕ) → StandsAt entries var place
     → IsTrue (is_seen seen place) ⊎ (level_at entries place ≡ 0)
 
+-- a place above level 0 assigns the variable and isn't seen
+pub record AddsPlace (entries : List Entry) (seen : List Bool) (var : ℕ) : Type 0 where
+  pub place : ℕ
+  pub at : StandsAt entries var place
+  pub above : 0 < level_at entries place
+  pub unseen : is_seen seen place ≡ false
+
+-- The literal at the place can't be resolved away by itself: it has no reason, or its reason has a
+-- literal above level 0 that wasn't seen.
+abbrev pub IsNeeded : List ArenaClause → List Entry → List ℕ → ℕ → Type 0
+IsNeeded clauses entries analyzed place = ((entry_at entries place).reason ≡ None)
+    ⊎ HasUnseen clauses entries analyzed place
+
+-- For learning only what is needed stays, besides the point.
+abbrev pub StaysNeeded : List ArenaClause → List Entry → Rule → List ℕ → ℕ → Type 0
+StaysNeeded clauses entries (Learning point) analyzed place =
+    (place ≡ point) ⊎ IsNeeded clauses entries analyzed place
+StaysNeeded clauses entries Refuting analyzed place = Unit {0}
+
 -- what the role of a place says
 abbrev pub IsRole : List ArenaClause → List Entry → ℕ → Rule → List ℕ → ℕ → Role → Type 0
 IsRole clauses entries depth rule analyzed place Kept =
     (0 < level_at entries place) × MayStay entries depth rule place
+    × StaysNeeded clauses entries rule analyzed place
 IsRole clauses entries depth rule analyzed place Resolved =
     MayGo rule place × ((level_at entries place ≡ 0) ⊎ IsResolvable clauses entries analyzed place)
 IsRole clauses entries depth rule analyzed place (Implied id) =
@@ -58,7 +78,7 @@ IsRole clauses entries depth rule analyzed place (Implied id) =
     × AddsLittle entries rule analyzed (clause_at clauses id).lits
 
 -- Each of the places seen stays or is resolved away, and what is resolved away is of level 0 or has
--- all variables of its reason seen.
+-- all variables of its reason seen. For learning no more stays than that asks for.
 -- Places were seen besides the old ones only as places of such reasons.
 pub record IsCut (clauses : List ArenaClause) (entries : List Entry) (depth : ℕ) (rule : Rule)
     (old handled analyzed kept resolved : List ℕ) : Type 0 where
@@ -69,6 +89,8 @@ pub record IsCut (clauses : List ArenaClause) (entries : List Entry) (depth : �
   pub apart : (place : ℕ) → Contains kept place → Contains resolved place → ⊥
   pub stays : (place : ℕ) → Contains kept place
       → (0 < level_at entries place) × MayStay entries depth rule place
+  pub needed : (place : ℕ) → Contains kept place
+      → StaysNeeded clauses entries rule analyzed place
   pub resolvable : (place : ℕ) → Contains resolved place
       → (level_at entries place ≡ 0) ⊎ IsResolvable clauses entries analyzed place
   pub gone : (place : ℕ) → Contains resolved place → MayGo rule place

@@ -1,7 +1,8 @@
 -- A trail as an implication graph: a node for each place, and for a forced literal the clause that
 -- forced it.
-use Rattle.std.specs.Prelude.{◌≡◌, ℕ, ◌<◌, List, Contains, None}
+use Rattle.std.specs.Prelude.{◌≡◌, ℕ, ◌<◌, List, Contains, None, Some}
 use Rattle.sat_base.specs.Lit.{variable}
+use Rattle.clause_arena.specs.Arena.{ArenaClause, clause_at}
 use Rattle.trail_core.specs.Trail.{Entry, StandsAt, entry_at}
 
 -- the literal that became true at the place
@@ -37,3 +38,13 @@ pub record IsVariableAbove (entries : List Entry) (places : List ℕ) (var : ℕ
   pub stands : Contains places place
   pub is : variable (lit_at entries place) ≡ var
   pub above : 0 < level_at entries place
+
+-- the reason of a place has a literal above level 0 whose place isn't among these
+pub record HasUnseen (clauses : List ArenaClause) (entries : List Entry) (places : List ℕ)
+    (place : ℕ) : Type 0 where
+  pub id : ℕ
+  pub reason : (entry_at entries place).reason ≡ Some id
+  pub other : ℕ
+  pub of : IsPlaceOf entries (clause_at clauses id).lits other
+  pub above : 0 < level_at entries other
+  pub unseen : Contains places other → ⊥

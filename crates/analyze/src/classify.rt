@@ -1,7 +1,7 @@
 //! The cut through the implication graph: which literals stay and which are resolved away.
 
-ghost use Rattle.std.specs.Prelude.{◌≡◌, ℕ, ◌<◌, ◌≤◌, List, [], length, Contains, IfOk, OnOk};
-ghost use Rattle.std.specs.Prelude.{IsTrue};
+ghost use Rattle.std.specs.Prelude.{◌≡◌, ℕ, ◌<◌, ◌≤◌, false, List, [], length, Contains};
+ghost use Rattle.std.specs.Prelude.{IfOk, OnOk, IsTrue};
 ghost use Rattle.std.specs.List.Sorted.{IsStrictlySortedBy};
 ghost use Rattle.std.specs.Ordering.{nat_cmp};
 ghost use Rattle.sat_base.specs.Lit.{variable};
@@ -12,6 +12,7 @@ ghost use Rattle.analyze.specs.Seen.{Agree, AreDistinct};
 ghost use Rattle.analyze.specs.Graph.{level_at};
 ghost use Rattle.analyze.specs.declared.classify.Rule.TheVariants.{Learning, Refuting};
 ghost use Rattle.analyze.specs.Cut.{IsDeepFor, IsPrepared, IsRole, IsCut, AddsNothing};
+ghost use Rattle.analyze.specs.Cut.{AddsPlace};
 
 use crate::nodes::{level, reason};
 use crate::seen::analyze_clause;
@@ -184,8 +185,10 @@ fn refuting_role(trail: &Trail, place: usize) -> Role
 // Whether each assigned variable of the clause was seen or is of level 0.
 fn adds_little(seen: &[bool], trail: &Trail, clause: &[Lit]) -> bool
     requires { trail.now.vars ≤ length seen.now }
-    ensures { IsTrue result → (lit : ℕ) → Contains clause.now lit
+    ensures little { IsTrue result → (lit : ℕ) → Contains clause.now lit
         → AddsNothing trail.now.entries seen.now (variable lit) }
+    ensures more { result ≡ false → (lit : ℕ) × Contains clause.now lit
+        × AddsPlace trail.now.entries seen.now (variable lit) }
 {
     for lit in clause {
         if !adds_nothing(seen, trail, *lit) {
@@ -198,7 +201,8 @@ fn adds_little(seen: &[bool], trail: &Trail, clause: &[Lit]) -> bool
 // Whether the variable of the literal was seen, is of level 0, or isn't assigned.
 fn adds_nothing(seen: &[bool], trail: &Trail, lit: Lit) -> bool
     requires { trail.now.vars ≤ length seen.now }
-    ensures { IsTrue result → AddsNothing trail.now.entries seen.now (variable lit) }
+    ensures nothing { IsTrue result → AddsNothing trail.now.entries seen.now (variable lit) }
+    ensures place { result ≡ false → AddsPlace trail.now.entries seen.now (variable lit) }
 {
     let Some(place) = trail.place(lit.var()) else {
         return true;

@@ -12,7 +12,7 @@ ghost use Rattle.trail_core.specs.Trail.{lits_of};
 ghost use Rattle.trail_core.specs.UnderTrail.{IsFalseClause, IsFounded, IsComplete};
 ghost use Rattle.analyze.specs.Graph.{IsVariableAbove, lit_at, level_at};
 ghost use Rattle.analyze.specs.Table.{KnowsArena, KnowsUnits};
-ghost use Rattle.analyze.specs.Learnt.{IsAsserting, IsNew, IsLearntBy};
+ghost use Rattle.analyze.specs.Learnt.{IsAsserting, IsNew, IsMinimized, IsLearntBy};
 ghost use Rattle.analyze.specs.Seen.{Agree, AreClear};
 
 use crate::Scratch;
@@ -79,6 +79,9 @@ pub fn learn(
     ensures asserting { IfOk result
         (λ learnt. IsAsserting trail.now.entries trail.now.depth learnt.back learnt.clause) }
     ensures fresh { IfOk result (λ learnt. IsNew arena.now learnt.clause) }
+    ensures minimized { IfOk result
+        (λ learnt. IsMinimized arena.now trail.now.entries trail.now.depth
+        learnt.met learnt.clause) }
     ensures ascending { IfOk result (λ learnt. IsStrictlySortedBy nat_cmp learnt.met) }
 
     // For every table that knows the arena's clauses and the unit clauses of level 0.
@@ -132,6 +135,9 @@ fn derive(
     ensures asserting { IfOk result
         (λ learnt. IsAsserting trail.now.entries trail.now.depth learnt.back learnt.clause) }
     ensures fresh { IfOk result (λ learnt. IsNew arena.now learnt.clause) }
+    ensures minimized { IfOk result
+        (λ learnt. IsMinimized arena.now trail.now.entries trail.now.depth
+        learnt.met learnt.clause) }
     ensures ascending { IfOk result (λ learnt. IsStrictlySortedBy nat_cmp learnt.met) }
     ensures derived { IfOk result
         (λ learnt. (table : Ref → Option Known) → KnowsArena table arena.now

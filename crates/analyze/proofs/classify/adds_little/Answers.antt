@@ -18,7 +18,7 @@ loop-lit-preserved c = λ lit has. old_or_new lit (Contains-push_cases (take c.l
     old_or_new lit (inl before) = c.loop-lit.invariant lit before
     old_or_new lit (inr same) =
         subst (λ z. AddsNothing c.args.trail.now.entries c.args.seen.now (variable z)) same
-        (c.if-not-adds_nothing.ensures refl)
+        (c.if-not-adds_nothing.ensures.nothing refl)
 
-pub returns : goal.returns
-returns c = λ _ lit has. c.loop-lit.invariant lit (subst (λ (xs : List ℕ). Contains xs lit) (sym (take_all c.loop-lit.lit-index c.args.clause.now c.loop-lit-test.false)) has)
+pub returns-clause-little : goal.returns-clause-little
+returns-clause-little c = λ _ lit has. c.loop-lit.invariant lit (subst (λ (xs : List ℕ). Contains xs lit) (sym (take_all c.loop-lit.lit-index c.args.clause.now c.loop-lit-test.false)) has)

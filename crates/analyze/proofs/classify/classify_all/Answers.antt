@@ -7,7 +7,7 @@ use Rattle.analyze.specs.Graph.{IsPlaceOf}
 use Rattle.analyze.specs.Seen.{AreAllSeen, HasGrown}
 use Rattle.analyze.proofs.Forced.{Forced, forced}
 use Rattle.analyze.proofs.Classified.{parting_same, few_places, one_more, cut_keep, cut_resolve}
-use Rattle.analyze.proofs.Classified.{cut_imply}
+use Rattle.analyze.proofs.Classified.{cut_imply, adds_none}
 use Rattle.analyze.proofs.classify.classify_all.Goals as goal
 use Rattle.analyze.proofs.classify.classify_all.Goals.{in-Kept+in_ok-push-in-Kept}
 use Rattle.analyze.proofs.classify.classify_all.Goals.{in-Resolved+in_ok-push-in-Resolved}
@@ -110,6 +110,7 @@ loop-next-preserved c =
                 has c.loop-next.invariant.cut.prepared).0
                 (w.in-Resolved.ensures.role c.loop-next.analyzed.items c.loop-next.invariant.agree
                 has c.loop-next.invariant.cut.prepared).1 c.loop-next.invariant.cut.prepared
+                (adds_none c.args.trail.now.entries c.args.rule c.loop-next.analyzed.items)
                 c.loop-next.invariant.cut;
           })
       | in-Implied+in_ok-analyze_clause-in-Implied+in_ok-push-in-Implied w ↦

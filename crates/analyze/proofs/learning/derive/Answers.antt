@@ -5,13 +5,13 @@ use Rattle.trace_core.specs.Trace.{greatest}
 use Rattle.clause_arena.specs.Arena.{clause_at}
 use Rattle.trail_core.specs.Trail.{lits_of}
 use Rattle.trail_core.specs.UnderTrail.{IsFalseClause}
-use Rattle.analyze.specs.Learnt.{IsAsserting, IsNew}
+use Rattle.analyze.specs.Learnt.{IsAsserting, IsNew, IsMinimized}
 use Rattle.analyze.specs.Graph.{IsPlaceOf, IsVariableAbove, lit_at, level_at}
 use Rattle.analyze.specs.Seen.{AreAllSeen, HasGrown}
 use Rattle.analyze.specs.Naming.{HasClause, name_for, tag_for}
 use Rattle.analyze.proofs.Forced.{present_in_false}
 use Rattle.analyze.proofs.ToFirstUip.{resolved_start, under_way_start}
-use Rattle.analyze.proofs.Taught.{Taught, IsClauseOf, all_within, met_within, all_clauses, refuted_clause, asserting_clause}
+use Rattle.analyze.proofs.Taught.{Taught, IsClauseOf, all_within, met_within, all_clauses, refuted_clause, asserting_clause, minimized_clause}
 use Rattle.analyze.proofs.New.{new_clause}
 use Rattle.analyze.proofs.Justified.{learnt_by}
 use Rattle.analyze.proofs.learning.derive.Goals.{After-deref, After-copy}
@@ -125,6 +125,19 @@ returns-clause-fresh c =
     (new_clause c.args.trail.now c.args.arena.now c.args.conflict c.in_ok-point.point
     c.first_uip.new.analyzed.items c.classify.new.analyzed.items c.in_ok-parts.parts.kept.items
     c.in_ok-parts.parts.resolved.items c.in_ok-clause.clause t members)
+
+pub returns-clause-minimized : goal.returns-clause-minimized
+returns-clause-minimized c =
+    let t = taught (goal.at.returns-clause-minimized c).After-deref in
+    let members = clause_members (goal.at.returns-clause-minimized c).After-copy in
+    subst (IsMinimized c.args.arena.now c.args.trail.now.entries c.args.trail.now.depth
+    c.in_ok-variables_of.field-0) (sym c.in_ok-copy.ensures)
+    (minimized_clause c.args.trail.now c.args.arena.now c.args.conflict c.in_ok-point.point
+    c.first_uip.new.analyzed.items c.classify.new.analyzed.items c.in_ok-parts.parts.kept.items
+    c.in_ok-parts.parts.resolved.items c.in_ok-clause.clause c.in_ok-variables_of.field-0 t members
+    (λ var. subst (λ (xs : List ℕ). Contains c.in_ok-variables_of.field-0 var
+    ↔ IsVariableAbove c.args.trail.now.entries xs var) c.deref-4.ensures.value
+    (c.in_ok-variables_of.ensures.members var)))
 
 pub returns-clause-derived : goal.returns-clause-derived
 returns-clause-derived c = λ table arena known.
