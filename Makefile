@@ -1,13 +1,35 @@
 # Builds and runs with Rattle's command rt; see README.md.
 
 FILE ?= examples/counter.icnf
+PREFIX ?= /usr/local
+JOBS ?= $(shell nproc)
 
-.PHONY: run test bench profile bench-reader bench-checker bench-trace bench-learning
+.PHONY: run try prove install examples test bench profile bench-reader bench-checker bench-trace bench-learning
 .PHONY: bench-board bench-lock
 
-# Proves what is not proved yet, builds the program, and solves FILE.
-run:
+# Proves what isn't proved yet, crates side by side, and says which; then builds the program and
+# solves FILE.
+run: prove
 	@cd crates/tarmo_program && rt run < $(abspath $(FILE))
+
+# Solves FILE within a minute by an unproved build that checks as it runs: for a first look.
+try:
+	@cd crates/tarmo_program && rt try < $(abspath $(FILE))
+
+# All crates, as many at a time as there are processors. A line for each that is proved.
+prove:
+	@bench/prove.sh $(JOBS)
+
+# The solver and the audit into PREFIX/bin, as tarmo and tarmo_audit.
+install: prove
+	@cd crates/tarmo_program && rt run < /dev/null > /dev/null; true
+	@cd crates/audit_program && rt run < /dev/null > /dev/null; true
+	install -D crates/tarmo_program/out/tarmo_program $(DESTDIR)$(PREFIX)/bin/tarmo
+	install -D crates/audit_program/out/audit_program $(DESTDIR)$(PREFIX)/bin/tarmo_audit
+
+# The examples with the built program, and what they print beside what they should.
+examples:
+	examples/check.py
 
 # What the merge gate runs: each proof from its sources, the edits that must fail, tests and programs.
 test:
