@@ -1,4 +1,4 @@
-use Rattle.std.proofs.Common.{◌+◌, arith}
+use Rattle.std.proofs.Common.{◌+◌, ◌<◌, length, arith}
 use Rattle.std.proofs.lemmas.List.{take_rest, length-drop}
 use Rattle.icnf_text.proofs.AheadRead.{more_state, more_given, byte_then, byte_then_given}
 use Rattle.icnf_text.proofs.reader.Reader.read_all.Goals as goal
@@ -6,7 +6,8 @@ use Rattle.icnf_text.proofs.reader.Reader.read_all.Goals as goal
 pub loop-at-preserved : goal.loop-at-preserved
 loop-at-preserved c =
     let at = c.loop-at.at in
-    let test = c.loop-at-test.true in
+    let here = c.loop-at-test.true in
+    let test : at < length c.args.piece.now = omega (arith, here) in
     let within = c.in_ok-at.ensures.within in
     let rest = take_rest c.args.piece.now (at + 1) in
     let read = byte_then c.args.self.now c.loop-at.self c.read.new.self c.args.piece.now at test c.loop-at.invariant.state c.in_ok-read.ensures.state in
