@@ -1,0 +1,5 @@
+pub mod Lists
+pub mod Circles
+pub mod Entered
+pub mod Walks
+pub mod Seen
