@@ -4,3 +4,6 @@ pub mod Links
 pub mod Phases
 pub mod Luby
 pub mod Layout
+pub mod Heap
+pub mod Scores
+pub mod HeapLayout

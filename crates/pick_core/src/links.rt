@@ -1,8 +1,8 @@
 //! A doubly linked circle of variables, by index.
 
 ghost use Rattle.std.specs.Prelude.{◌≡◌, ℕ, ◌+◌, ◌<◌, List, ◌∷◌, length, Contains};
-ghost use Rattle.pick_core.specs.Links.{IsJoined, IsOrder, HasVariable, IsNew, AreNew, HasWay, IsWay};
-ghost use Rattle.pick_core.specs.Links.{IsFoundOn, farther_at};
+ghost use Rattle.pick_core.specs.Links.{IsJoined, IsOrder, HasVariable, IsNew, AreNew, HasWay};
+ghost use Rattle.pick_core.specs.Links.{IsWay, IsFoundOn, farther_at};
 ghost use Rattle.pick_core.specs.Queue.{without, with_next, entered};
 
 use std::mem::size_of;

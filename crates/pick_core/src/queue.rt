@@ -14,8 +14,8 @@ use trail_core::Trail;
 /// The variables in the order in which they are decided: the one nearest the end comes first. What
 /// was bumped stands at the end, as in the queues of solvers that move variables to the front. A
 /// search goes on where the last one ended, so the caller says by `rewind` where variables became
-/// free again. Contracts see the queue as the list of its variables, each once, from the end on, and
-/// the front of this list that a search skips.
+/// free again. Contracts see the queue as the list of its variables, each once, from the end on,
+/// and the front of this list that a search skips.
 #[derive(Debug, Drop)]
 pub struct Queue {
     links: Vec<Links>,
