@@ -1,6 +1,6 @@
 -- Scores of variables as contracts see them.
-use Rattle.std.specs.Prelude.{◌≡◌, ℕ, ◌+◌, ◌-◌, ◌/◌, ◌<◌, ◌≤◌, ◌⊎◌, nat_le, if◌then◌else◌, Bool, true, false}
-use Rattle.std.specs.Prelude.{List, slice_index_or}
+use Rattle.std.specs.Prelude.{◌≡◌, ℕ, ◌+◌, ◌-◌, ◌/◌, ◌<◌, ◌≤◌, ◌⊎◌, nat_le, if◌then◌else◌}
+use Rattle.std.specs.Prelude.{Bool, true, false, List, slice_index_or}
 use Rattle.trail_core.specs.Trail.{Entry, IsFree}
 
 -- For each variable from 1 on its score, its rank, which decides among equal scores, and whether it

@@ -1,7 +1,7 @@
 //! A binary heap of variables, by index.
 
-ghost use Rattle.std.specs.Prelude.{◌≡◌, ◌≢◌, ℕ, ◌+◌, ◌*◌, ◌/◌, ◌<◌, ◌≤◌, min, max, [], length, not};
-ghost use Rattle.std.specs.Prelude.{IsTrue, IfSome, IfNone, OnOk, OnErr};
+ghost use Rattle.std.specs.Prelude.{◌≡◌, ◌≢◌, ℕ, ◌+◌, ◌*◌, ◌/◌, ◌<◌, ◌≤◌, min, max, [], length};
+ghost use Rattle.std.specs.Prelude.{not, IsTrue, IfSome, IfNone, OnOk, OnErr};
 ghost use Rattle.trail_core.specs.Trail.{IsFree};
 ghost use Rattle.pick_core.specs.Assigned.{AreAllAssigned};
 ghost use Rattle.pick_core.specs.Heap.{IsPut, IsPlaced, IsExchanged, IsHeap, IsUpHeap, IsDownHeap};

@@ -1,7 +1,7 @@
 //! Scores of variables.
 
-ghost use Rattle.std.specs.Prelude.{◌≡◌, ℕ, ◌+◌, ◌<◌, ◌≤◌, ◌≢◌, min, max, List, ◌++◌, IfSome, IfNone};
-ghost use Rattle.std.specs.Prelude.{OnOk, OnErr};
+ghost use Rattle.std.specs.Prelude.{◌≡◌, ℕ, ◌+◌, ◌<◌, ◌≤◌, ◌≢◌, min, max, List, ◌++◌, IfSome};
+ghost use Rattle.std.specs.Prelude.{IfNone, OnOk, OnErr};
 ghost use Rattle.trail_core.specs.Trail.{IsFree, Entry};
 ghost use Rattle.pick_core.specs.Assigned.{AreAllAssigned};
 ghost use Rattle.pick_core.specs.Scores.{score_of, rank_of, Waits, IsBestFree, ScoresView};
@@ -88,8 +88,8 @@ impl Scores {
     }
 
     /// Lets later bumps count for more: the increment grows by a sixteenth. Where it passes 2^58,
-    /// all scores and the increment are divided by 2^40, rounded down, and all variables wait again.
-    /// Takes no memory.
+    /// all scores and the increment are divided by 2^40, rounded down, and all variables wait
+    /// again. Takes no memory.
     pub fn decay(&mut self)
         ensures scores { (var : ℕ) → score_of self.new var
             ≡ scaled self.old.increment (score_of self.old var) }
