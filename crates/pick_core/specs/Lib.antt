@@ -1,0 +1,9 @@
+pub mod Assigned
+pub mod Queue
+pub mod Links
+pub mod Phases
+pub mod Luby
+pub mod Layout
+pub mod Heap
+pub mod Scores
+pub mod HeapLayout
