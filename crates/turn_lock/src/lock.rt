@@ -14,12 +14,28 @@ use crate::rule::{COUNT, TURN, TurnSeat, TurnTable, VALUE};
 use std::alloc::{AllocError, Global};
 use std::marker::Model;
 use std::sync::Wait;
+use std::sync::atomic::AtomicU32;
+use std::sync::atomic::Ordering::SeqCst;
 
 /// A lock round one value. Each caller comes with a pass of its own.
+///
+/// Its turn is a word of a table: the number of the pass that holds the value, 0 where none does.
+/// The steps on the words of the table are all that the promises of the lock rest on. Beside them
+/// stands a count of the callers that may sleep, so that nobody who leaves asks the system to wake
+/// a sleeper where there is none, which would take longer than the rest of a hold.
+///
+/// No caller sleeps for ever while the turn is free. A caller that found the turn taken adds itself
+/// to the sleepers, and sleeps only where the turn word, looked at once more by the system, is
+/// still the number that it found; whoever leaves frees the word, and then reads the sleepers. All
+/// these steps are sequentially consistent: where the count was read without the caller in it, the
+/// caller's look at the word comes after it was freed, and it doesn't sleep. Who is woken counts
+/// itself out and tries again; where it finds the turn taken anew, it counts itself in again, and
+/// the new holder's leave wakes it or another of those that are still counted.
 #[derive(Drop)]
 pub struct TurnLock<T: Kept> {
     pub(crate) table: TurnTable<T>,
     pub(crate) passes: u32,
+    pub(crate) sleepers: AtomicU32,
 }
 
 impl<T: Kept> Model for TurnLock<T> {
@@ -125,7 +141,11 @@ impl<T: Kept> TurnLock<T> {
         for _ in rt.forever() {
             match self.try_enter(pass) {
                 Ok(held) => return held,
-                Err(found) => self.table.shared.park(rt, TURN, found as u32),
+                Err(found) => {
+                    self.sleepers.fetch_add(1, SeqCst);
+                    self.table.shared.park(rt, TURN, found as u32);
+                    self.sleepers.fetch_sub(1, SeqCst);
+                }
             }
         }
         unreachable!()
@@ -180,7 +200,9 @@ impl<T: Kept> TurnLock<T> {
         let None = left else { unreachable!() };
         shared.store::<StoreCount>(&mut pass.seat, COUNT, count);
         shared.store::<Release>(&mut pass.seat, TURN, 0);
-        shared.wake_one(TURN);
+        if self.sleepers.load(SeqCst) != 0 {
+            shared.wake_one(TURN);
+        }
     }
 
     /// The count, by one load and without the turn. The pass's next hold shows no lower one.
@@ -207,7 +229,7 @@ impl<T: Kept> TurnLock<T> {
         let (_, mut seat) = self.table.shared.load_new_seat::<Observe>(TURN);
         take_in(&self.table.shared, &mut seat, rest);
         take_in(&self.table.shared, &mut seat, front);
-        let TurnLock { table, passes: _ } = self;
+        let TurnLock { table, .. } = self;
         finish(table, seat)
     }
 }

@@ -10,6 +10,7 @@ use crate::rule::{About, TurnSeat};
 use atomic_table::Table;
 use std::alloc::{AllocError, Global};
 use std::snapshot::Snapshot;
+use std::sync::atomic::AtomicU32;
 
 // The lock, and the seat of its first pass.
 pub fn open<T: Kept + Drop>(
@@ -33,7 +34,14 @@ pub fn open<T: Kept + Drop>(
     let mut slots = Vec::with_capacity(alloc, 1)?;
     slots.push_reserved(Some(value));
     match Table::new(alloc, &[0, count], slots, &about) {
-        Ok((table, seat)) => Ok((TurnLock { table, passes }, seat)),
+        Ok((table, seat)) => {
+            let lock = TurnLock {
+                table,
+                passes,
+                sleepers: AtomicU32::new(0),
+            };
+            Ok((lock, seat))
+        }
         Err(_) => Err(AllocError),
     }
 }
