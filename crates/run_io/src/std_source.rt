@@ -4,7 +4,7 @@ ghost use Rattle.std.specs.Prelude.{OnErr, OnOk, is_some, length};
 ghost use Rattle.std.specs.Io.KnownBytes.{ReadConsumes};
 ghost use Rattle.run_io.specs.Bytes.{is_end};
 ghost use Rattle.run_io.specs.Fault.{one_more, HasCause};
-ghost use Rattle.run_io.specs.StdSourceState.{remaining_of};
+ghost use Rattle.run_io.specs.StdSourceState.{is_file_of, remaining_of};
 
 use crate::pieces::finds_end;
 use crate::system::{counted_answer, read_some};
@@ -33,12 +33,13 @@ enum Opened<F, I> {
 
 impl<'a, R: Files + Input> Model for StdSource<'a, R> {
     ghost use Rattle.std.specs.Prelude.{is_some};
-    ghost use Rattle.run_io.specs.StdSourceState.{StdSourceState, remaining_of};
+    ghost use Rattle.run_io.specs.StdSourceState.{StdSourceState, is_file_of, remaining_of};
 
     ghost Value = { StdSourceState };
 
     ghost view = { λ a. record {
       is_open = is_some a.input;
+      is_file = is_file_of a.input;
       remaining = remaining_of R.File.remaining R.Reader.remaining a.input;
       faults = a.faults;
       ended = a.ended;
@@ -75,6 +76,7 @@ impl<'a, R: Files + Input> Source for StdSource<'a, R> {
         ensures cause { HasCause self.old.faults self.new.faults result }
         ensures standard_input { IfNone name.entry (IsOk result) }
         ensures opened { OnOk result (self.new.is_open ≡ true) }
+        ensures kind { OnOk result (self.new.is_file ≡ is_some name.entry) }
         ensures closed { OnErr result (self.new.is_open ≡ false) }
         ensures counted { OnErr result (self.new.faults ≡ one_more self.old.faults) }
     {
@@ -92,7 +94,8 @@ impl<'a, R: Files + Input> Source for StdSource<'a, R> {
         ensures count { IfOk result (λ n. n ≤ length buf.old) }
         ensures ended { self.new.ended ≡ (self.old.ended || is_end result (length buf.old)) }
         ensures cause { HasCause self.old.faults self.new.faults result }
-        ensures kept { self.new.is_open ≡ self.old.is_open }
+        ensures kept { (self.new.is_open ≡ self.old.is_open)
+            × (self.new.is_file ≡ self.old.is_file) }
         ensures bytes { ReadConsumes self.old.remaining self.new.remaining result buf.new }
         ensures closed { self.old.is_open ≡ false → IsErr result }
         ensures counted { OnErr result (self.new.faults ≡ one_more self.old.faults) }
@@ -111,6 +114,7 @@ fn read_opened<F: Read, I: Read>(
 ) -> Result<usize, Failed>
     ensures count { IfOk result (λ n. n ≤ length buf.old) }
     ensures kept { is_some input.new ≡ is_some input.old }
+    ensures kind { is_file_of input.new ≡ is_file_of input.old }
     ensures bytes { ReadConsumes (remaining_of F.remaining I.remaining input.old)
         (remaining_of F.remaining I.remaining input.new) result buf.new }
     ensures closed { is_some input.old ≡ false → IsErr result }

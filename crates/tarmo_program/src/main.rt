@@ -8,9 +8,10 @@ use run_io::{StdSink, StdSource};
 use std::process::ExitCode;
 use std::{env, io};
 use tarmo_run::{NO_MEMORY, WORDS_REFUSED, run_alone};
+use words::{WordsFault, usage};
 
 fn main(rt: HostRuntime) -> ExitCode {
-    let status = match words(&rt) {
+    let status = match arguments(&rt) {
         Ok(words) => {
             let mut source = StdSource::new(&rt);
             let mut sink = StdSink::new(&rt);
@@ -21,12 +22,18 @@ fn main(rt: HostRuntime) -> ExitCode {
         Err(_) => WORDS_REFUSED,
     };
     if status == WORDS_REFUSED {
-        let _ = eprintln!(rt; "tarmo: words refused");
+        let _ = show_usage(&rt);
     }
     ExitCode::from(status)
 }
 
 // The words behind the program's name.
-fn words(rt: &HostRuntime) -> io::Result<Vec<String>> {
+fn arguments(rt: &HostRuntime) -> io::Result<Vec<String>> {
     Ok(env::args(rt)?.skip(1).collect(rt.alloc())?)
+}
+
+// Says on standard error that the words are refused, and below it which ones there are.
+fn show_usage(rt: &HostRuntime) -> io::Result<()> {
+    eprintln!(rt; "{}", WordsFault::Refused)?;
+    eprint!(rt; "{}", usage(rt.alloc())?)
 }

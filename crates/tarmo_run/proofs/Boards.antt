@@ -1,27 +1,23 @@
 -- What stays of a board when entries come behind its own.
 use Rattle.std.proofs.Common.{◌≡◌, ◌∙◌, ℕ, zero, suc, ◌≤◌, Bool, Some, None, List, [], ◌∷◌, ◌++◌}
 use Rattle.std.proofs.Common.{length, refl, ap, sym, subst, arith, append_assoc, append-nil}
-use Rattle.std.specs.Prelude.{All, IsSome, Option, filter_map, IsTrue, not, ◌==◌}
+use Rattle.std.specs.Prelude.{All, IsSome, Option, filter_map}
 use Rattle.std.specs.List.{cons_option}
 use Rattle.std.proofs.lemmas.List.Elements.{All-head, All-tail, filter_map-append}
-use Rattle.std.specs.List.{list_any}
-use Rattle.trace_core.specs.Known.{item_at}
 use Rattle.entry_core.specs.declared.entries.Entry.{Entry}
 use Rattle.entry_core.specs.declared.entries.Event.{Event}
 use Rattle.entry_core.specs.declared.entries.Event.TheVariants as event
 use Rattle.entry_core.specs.declared.rules.Rules.{Rules}
-use Rattle.entry_core.specs.Attempts.{Attempt, attempts, begun_by, ended, ended_by}
 use Rattle.entry_core.specs.Journal.{jobs, segment_of, segments, inputs_of}
 use Rattle.entry_core.specs.Law.{Keeps}
 use Rattle.entry_core.specs.Settled.{cancelled, cancelled_by, settled}
 use Rattle.entry_core.proofs.LongerJournals.{longer_journal_keeps, segments-append}
 use Rattle.board_core.specs.State.{State, entered}
 use Rattle.board_core.proofs.Readings.{unread}
-use Rattle.board_core.proofs.Changes.{same_attempts}
 use Rattle.worker_loop.specs.Fits.{Fits}
 use Rattle.worker_loop.specs.declared.bench.Bench.{Bench}
 use Rattle.worker_loop.proofs.Fitting.{fits_longer as fits_behind}
-use Rattle.worker_loop.specs.Working.{HasAttemptsMore, IsOfAttempt, IsResting}
+use Rattle.worker_loop.specs.Working.{HasAttemptsMore, IsOfAttempt}
 use Rattle.tarmo_run.specs.Block.{AreBlocks, IsBlockOf}
 use Rattle.tarmo_run.specs.Growth.{HasJobsMore, HasNoJobMore, IsLonger}
 use Rattle.tarmo_run.specs.Output.{AreSettled}

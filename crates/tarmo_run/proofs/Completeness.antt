@@ -2,10 +2,11 @@
 -- board has, however much of it was read.
 use Rattle.std.proofs.Common.{◌≡◌, ◌∙◌, ℕ, ◌<◌, List, [], ◌++◌, length, Option, Bool, true, false}
 use Rattle.std.proofs.Common.{cond, refl, ap, sym, subst, arith, append-nil, inl, inr}
-use Rattle.std.specs.Prelude.{◌⊎◌, ◌↔◌, Some, None, IsSome, MatchOption}
+use Rattle.std.specs.Prelude.{◌⊎◌, ◌↔◌, Some, None, IsSome, MatchOption, option_map, unwrap_or}
 use Rattle.run_io.specs.Bytes.{appended, followed_by, IsEmptyWhereTold}
 use Rattle.entry_core.specs.Journal.{jobs}
 use Rattle.entry_core.specs.Settled.{settled}
+use Rattle.entry_core.specs.declared.rules.Rules.{Rules}
 use Rattle.board_core.specs.Replies.{IsJob}
 use Rattle.board_core.specs.State.{State}
 use Rattle.icnf_text.specs.declared.faults.Fault.{Fault}
@@ -17,7 +18,8 @@ use Rattle.icnf_text.proofs.Fronts.{wrong_stays_at_end}
 use Rattle.tarmo_run.specs.declared.endings.Ending.{Ending}
 use Rattle.tarmo_run.specs.declared.endings.Ending.TheVariants.{Complete, Refused, Unread}
 use Rattle.tarmo_run.specs.declared.endings.Ending.TheVariants.{Exhausted}
-use Rattle.tarmo_run.specs.declared.words.Command.{Command}
+use Rattle.tarmo_run.specs.Asking.{rules_of}
+use Rattle.words.specs.Accepted.{Asked}
 use Rattle.tarmo_run.specs.Block.{AreBlocks}
 use Rattle.tarmo_run.specs.Output.{IsAnswered, IsEnding, IsOutput, IsRun, PutFirst, PutQueries}
 use Rattle.tarmo_run.specs.Output.{UnlessExhausted, WroteAll, WroteFront, ending_by, is_one_so}
@@ -124,37 +126,37 @@ by_ending trace Exhausted board status text bytes left_after ended failed before
     inr (w.told ∙ ap (λ (e : Ending). status_of e board) is
     ∙ either_way (is_one_so is_starved board (jobs board.journal)) 6)
 
-complete : (command : Command) (board : State) (status : ℕ) (text : List ℕ)
+complete : (given : Rules) (board : State) (status : ℕ) (text : List ℕ)
     (left_before left_after : Option (List ℕ)) (ended failed : Bool)
     (before after : Option (List ℕ)) →
     left_before ≡ Some text → (ended ≡ true → IsEmptyWhereTold left_after) → failed ≡ false →
-    (status ≡ 4 → ⊥) → (run : IsRun command left_before left_after ended failed before after status
+    (status ≡ 4 → ⊥) → (run : IsRun given left_before left_after ended failed before after status
     board) →
-    WroteAll command.trace (record { bytes = run.bytes; ended = ended; failed = failed }) board
-    before after status ⊎ WroteFront command.trace
+    WroteAll given.traces (record { bytes = run.bytes; ended = ended; failed = failed }) board
+    before after status ⊎ WroteFront given.traces
     (record { bytes = run.bytes; ended = ended; failed = failed }) board before after status →
-    IsAnswered command.trace text before after status board ⊎ (status ≡ 6)
-complete command board status text left_before left_after ended failed before after told whole
+    IsAnswered given.traces text before after status board ⊎ (status ≡ 6)
+complete given board status text left_before left_after ended failed before after told whole
     unfailed unbroken run (inl w) =
-    by_ending command.trace w.ending board status text run.bytes left_after ended failed before
+    by_ending given.traces w.ending board status text run.bytes left_after ended failed before
     after (sym told ∙ run.gave) whole unfailed w refl
-complete command board status text left_before left_after ended failed before after told whole
+complete given board status text left_before left_after ended failed before after told whole
     unfailed unbroken run (inr w) = absurd (unbroken w.told)
 
 -- over the board that a run gives back
-pub complete_over : (found : Option State) (command : Command) (status : ℕ) (text : List ℕ)
+pub complete_over : (found : Option State) (given : Rules) (status : ℕ) (text : List ℕ)
     (left_before left_after : Option (List ℕ)) (ended failed : Bool)
     (before after : Option (List ℕ)) →
     left_before ≡ Some text → (ended ≡ true → IsEmptyWhereTold left_after) → failed ≡ false →
     (status ≡ 4 → ⊥) →
-    MatchOption found ⊥ (IsRun command left_before left_after ended failed before after status) →
+    MatchOption found ⊥ (IsRun given left_before left_after ended failed before after status) →
     MatchOption found (status ≡ 6)
-    (λ board. IsAnswered command.trace text before after status board ⊎ (status ≡ 6))
-complete_over None command status text left_before left_after ended failed before after told whole
+    (λ board. IsAnswered given.traces text before after status board ⊎ (status ≡ 6))
+complete_over None given status text left_before left_after ended failed before after told whole
     unfailed unbroken run = absurd run
-complete_over (Some board) command status text left_before left_after ended failed before after told
+complete_over (Some board) given status text left_before left_after ended failed before after told
     whole unfailed unbroken run =
-    complete command board status text left_before left_after ended failed before after told whole
+    complete given board status text left_before left_after ended failed before after told whole
     unfailed unbroken run run.wrote
 
 -- the sink didn't fail
@@ -162,7 +164,15 @@ pub not_broken : (status before now : ℕ) → (status ≡ 4) ↔ (before < now)
     status ≡ 4 → ⊥
 not_broken status before now iff same broken = let rose = iff.0 broken in omega (arith, rose, same)
 
--- what was read of the words is what they ask for
-pub same_command : (found wanted : Option Command) (given command : Command) → found ≡ wanted →
-    found ≡ Some given → wanted ≡ Some command → given ≡ command
-same_command found wanted given command is some asked = cc
+-- the rules that were read are those of the words
+pub same_rules : (found : Option Asked) (given : Rules) (command : Asked) →
+    option_map rules_of found ≡ Some given → found ≡ Some command → given ≡ rules_of command
+same_rules found given command read is =
+    let both : Some (rules_of command) ≡ Some given = sym (ap (option_map rules_of) is) ∙ read in
+    sym (ap (λ (o : Option Rules). unwrap_or o given) both)
+
+-- there is a board
+pub had_board : (found : Option State) (P : Type 0) (Q : State → Type 0) → MatchOption found ⊥ Q →
+    MatchOption found P Q
+had_board None P Q h = absurd h
+had_board (Some board) P Q h = h

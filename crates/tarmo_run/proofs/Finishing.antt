@@ -9,13 +9,13 @@ use Rattle.run_io.proofs.Laws.{appended_nothing, appended_twice}
 use Rattle.entry_core.specs.Journal.{jobs}
 use Rattle.entry_core.specs.Legal.{IsLegal}
 use Rattle.entry_core.specs.Settled.{cancelled}
+use Rattle.entry_core.specs.declared.rules.Rules.{Rules}
 use Rattle.board_core.specs.State.{State}
 use Rattle.icnf_text.specs.Jobs.{Job}
 use Rattle.tarmo_run.specs.declared.desk.Desk.{Desk}
 use Rattle.tarmo_run.specs.declared.endings.Ending.{Ending}
 use Rattle.tarmo_run.specs.declared.endings.Ending.TheVariants.{Complete, Refused, Unread}
 use Rattle.tarmo_run.specs.declared.endings.Ending.TheVariants.{Exhausted}
-use Rattle.tarmo_run.specs.declared.words.Command.{Command}
 use Rattle.tarmo_run.specs.Block.{AreBlocks}
 use Rattle.tarmo_run.specs.Client.{queries_behind, queries_on}
 use Rattle.tarmo_run.specs.Desk.{IsFresh}
@@ -24,7 +24,6 @@ use Rattle.tarmo_run.specs.Ended.{Finished, FinishedInPart, TookFrontOfLine}
 use Rattle.tarmo_run.specs.Output.{AreSettled, IsEnding, IsOutput, IsRun, PutFirst, Reading}
 use Rattle.tarmo_run.specs.Output.{UnlessExhausted, last_line_of, queries_in, status_of}
 use Rattle.tarmo_run.specs.Reading.{AsksFirst, IsThrough, ReadsInPart, ReadsThrough}
-use Rattle.tarmo_run.specs.Words.{rules_of}
 use Rattle.tarmo_run.specs.Writer.{HasAllBlocks, HasWritten, TookFront}
 use Rattle.tarmo_run.proofs.Boards.{blocks_stay, settled_stay}
 use Rattle.tarmo_run.proofs.Queries.{queries_put}
@@ -173,13 +172,13 @@ put_first reading board begun =
     record { done = queries_on board; whole = begun.queries; put = queries_put board.journal }
 
 -- the whole output was taken, and the board is given back
-pub ran_through : (command : Command) (ending : Ending) (left_before left_after : Option (List ℕ))
+pub ran_through : (given : Rules) (ending : Ending) (left_before left_after : Option (List ℕ))
     (ended failed : Bool) (board : State) (before after : Option (List ℕ)) (status : ℕ) →
-    board.rules ≡ rules_of command → IsLegal board.rules board.journal →
+    board.rules ≡ given → IsLegal board.rules board.journal →
     status ≡ status_of ending board →
-    Finished command.trace ending left_before left_after ended failed board before after →
-    IsRun command left_before left_after ended failed before after status board
-ran_through command ending left_before left_after ended failed board before after status rules legal
+    Finished given.traces ending left_before left_after ended failed board before after →
+    IsRun given left_before left_after ended failed before after status board
+ran_through given ending left_before left_after ended failed board before after status rules legal
     told f =
     let reading : Reading = record { bytes = f.bytes; ended = ended; failed = failed } in
     record {
@@ -218,13 +217,13 @@ output_still trace ending reading old new text more output = record {
 }
 
 -- the sink failed, and what wasn't settled was cancelled
-pub ran_in_part : (command : Command) (left_before left_after : Option (List ℕ))
+pub ran_in_part : (given : Rules) (left_before left_after : Option (List ℕ))
     (ended failed : Bool) (old new : State) (before after : Option (List ℕ)) (status : ℕ) →
-    new.rules ≡ rules_of command → IsLegal new.rules new.journal → status ≡ 4 →
+    new.rules ≡ given → IsLegal new.rules new.journal → status ≡ 4 →
     HasNoJobMore old new → AreSettled new →
-    FinishedInPart command.trace left_before left_after ended failed old before after →
-    IsRun command left_before left_after ended failed before after status new
-ran_in_part command left_before left_after ended failed old new before after status rules legal told
+    FinishedInPart given.traces left_before left_after ended failed old before after →
+    IsRun given left_before left_after ended failed before after status new
+ran_in_part given left_before left_after ended failed old new before after status rules legal told
     more settled f =
     let reading : Reading = record { bytes = f.bytes; ended = ended; failed = failed } in
     let begun = begun_still reading old new more f.begun in
@@ -236,7 +235,7 @@ ran_in_part command left_before left_after ended failed old new before after sta
       wrote = inr (record {
         ending = f.ending;
         text = f.text;
-        output = output_still command.trace f.ending reading old new f.text more f.output;
+        output = output_still given.traces f.ending reading old new f.text more f.output;
         size = f.size;
         taken = f.taken;
         told = told;

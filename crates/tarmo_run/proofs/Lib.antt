@@ -14,4 +14,3 @@ mod Results
 mod Statements
 mod Statuses
 mod Variables
-mod WordList

@@ -1,4 +1,4 @@
-pub mod Words
+pub mod Asking
 pub mod Block
 pub mod Output
 pub mod Growth

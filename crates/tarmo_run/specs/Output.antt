@@ -25,8 +25,7 @@ use Rattle.tarmo_run.specs.declared.endings.Ending.TheVariants.{Complete, Refuse
 use Rattle.tarmo_run.specs.declared.endings.Ending.TheVariants.{Unread, Exhausted}
 use Rattle.tarmo_run.specs.declared.endings.Lack.{Lack}
 use Rattle.tarmo_run.specs.declared.endings.Lack.TheVariants.{Memory, Decision}
-use Rattle.tarmo_run.specs.declared.words.Command.{Command}
-use Rattle.tarmo_run.specs.Words.{rules_of}
+use Rattle.entry_core.specs.declared.rules.Rules.{Rules}
 use Rattle.tarmo_run.specs.Block.{AreBlocks}
 
 -- statements without their lines
@@ -170,17 +169,17 @@ pub record WroteFront (trace : Bool) (reading : Reading) (board : State)
   pub all_put : UnlessExhausted ending (left ≡ [])
   pub all_settled : AreSettled board
 
--- A run over a board, which it gives back: with the rules of the words and a legal journal.
-pub record IsRun (command : Command) (left_before left_after : Option (List ℕ))
+-- A run over a board, which it gives back: with these rules and a legal journal.
+pub record IsRun (given : Rules) (left_before left_after : Option (List ℕ))
     (ended failed : Bool) (taken_before taken_after : Option (List ℕ)) (status : ℕ)
     (board : State) : Type 0 where
-  pub rules : board.rules ≡ rules_of command
+  pub rules : board.rules ≡ given
   pub legal : IsLegal board.rules board.journal
   pub bytes : List ℕ
   pub gave : left_before ≡ followed_by bytes left_after
-  pub wrote : WroteAll command.trace (record { bytes = bytes; ended = ended; failed = failed })
+  pub wrote : WroteAll given.traces (record { bytes = bytes; ended = ended; failed = failed })
       board taken_before taken_after status
-      ⊎ WroteFront command.trace (record { bytes = bytes; ended = ended; failed = failed })
+      ⊎ WroteFront given.traces (record { bytes = bytes; ended = ended; failed = failed })
       board taken_before taken_after status
 
 -- A run without memory for a board reads nothing, and writes `memory`, or a front of it where the

@@ -12,22 +12,23 @@ ghost use Rattle.entry_core.specs.Causes.{HasCause as HasItsCause};
 ghost use Rattle.entry_core.specs.Journal.{clauses_of, cube_of, is_closed};
 ghost use Rattle.entry_core.specs.Legal.{IsLegal};
 ghost use Rattle.entry_core.specs.Settled.{settled};
-ghost use Rattle.tarmo_run.specs.Desk.{IsBetweenPieces, IsFresh};
+ghost use Rattle.tarmo_run.specs.Desk.{IsAlone, IsBetweenPieces, IsFresh};
 ghost use Rattle.tarmo_run.specs.Output.{HadNoBoard, IsAnswered, IsRun, last_line_of};
-ghost use Rattle.tarmo_run.specs.Words.{accepted, rules_of};
+ghost use Rattle.tarmo_run.specs.Asking.{accepted, rules_of};
 ghost use Rattle.tarmo_run.specs.Ended.{Finished, FinishedInPart};
 ghost use Rattle.tarmo_run.specs.declared.endings.Ending.TheVariants as endings;
-ghost use Rattle.tarmo_run.specs.declared.words.Command.{Command};
+ghost use Rattle.words.specs.Accepted.{Asked};
 
+use crate::asking::TextRun;
 use crate::client::{close_input, give_up};
 use crate::desk::Desk;
 use crate::endings::{Ending, NO_MEMORY, close_without_memory};
 use crate::pieces::show_blocks;
-use crate::words::{Command, read_words};
 use board_core::Board;
 use entry_core::{large_budgets_answer, verdicts_have_causes};
 use run_io::{Failed, Sink, Source};
 use std::alloc::Global;
+use words::WordsFault;
 
 /// The status of a run whose words are refused.
 pub const WORDS_REFUSED: u8 = 5;
@@ -37,12 +38,12 @@ const SINK_FAILED: u8 = 4;
 /// What a run gives back.
 #[derive(Debug, Drop)]
 pub struct Finish {
-    /// The first of these that stands: 5 where the words aren't accepted; 4 where the sink failed;
+    /// The first of these that stands: 5 where the words are refused; 4 where the sink failed;
     /// 6 where memory ran out, for the run or for a job; 3 where the source failed; 2 where the
     /// text has a wrong place; 1 where a job was given up; 0 otherwise.
     pub status: u8,
     /// The board with the text's jobs and their verdicts, which takes no more jobs. None where the
-    /// words aren't accepted, or where there was no memory for a board.
+    /// words aren't accepted, or where there was no memory for them or for a board.
     pub board: Option<Board>,
 }
 
@@ -51,10 +52,9 @@ pub struct Finish {
 /// board, makes attempts at them until each is settled, writes their blocks before it reads on, and
 /// gives back the status and the board.
 ///
-/// The words are options in any order, each once at most: `--trace`, and then each refuted part's
-/// block has its trace; `--conflicts` and as the next word how many clauses an attempt may learn, 1
-/// to 18446744073709551615, which is the default; `--attempts` and how many attempts a job has, 1
-/// to 64, by default 1.
+/// The words are those of `read_words`, but for a sum, of which it has no run. The number of
+/// workers is ignored: the one worker is the caller's thread. With a name the source is started
+/// with it, and otherwise as standard input.
 ///
 /// It stops reading at the end of the text, at its first wrong place, where the source fails, and
 /// where memory runs out; a text without end has a wrong place. Each block and the last line are
@@ -70,14 +70,19 @@ pub fn run_alone<S: Source, O: Sink>(
     requires sink_faults { O.faults out.old < last_count }
     requires unread { S.ended source.old ≡ false }
 
-    ensures words { (result.status ≡ 5) ↔ (accepted (map string_bytes words.now) ≡ None) }
-    ensures untouched { accepted (map string_bytes words.now) ≡ None →
+    ensures words { (result.status ≡ 5) ↔ ((accepted (map string_bytes words.now) ≡ None)
+        × (result.status ≢ 4) × (result.status ≢ 6)) }
+    ensures refused { accepted (map string_bytes words.now) ≡ None → result.board ≡ None }
+    ensures untouched { result.status ≡ 5 →
         (source.new ≡ source.old) × (out.new ≡ out.old) × (result.board ≡ None) }
-    ensures run { (command : Command) → accepted (map string_bytes words.now) ≡ Some command →
+    ensures no_board { result.board ≡ None → (result.status ≡ 5)
+        ⊎ HadNoBoard (S.left source.old) (S.left source.new) (O.taken out.old) (O.taken out.new)
+        result.status }
+    ensures run { (command : Asked) → accepted (map string_bytes words.now) ≡ Some command →
         MatchOption result.board
         (HadNoBoard (S.left source.old) (S.left source.new) (O.taken out.old) (O.taken out.new)
         result.status)
-        (IsRun command (S.left source.old) (S.left source.new) (S.ended source.new)
+        (IsRun (rules_of command) (S.left source.old) (S.left source.new) (S.ended source.new)
         (nat_lt (S.faults source.old) (S.faults source.new))
         (O.taken out.old) (O.taken out.new) result.status) }
     ensures causes { IfSome result.board (λ board. (job : ℕ) (given : Verdict) →
@@ -91,7 +96,7 @@ pub fn run_alone<S: Source, O: Sink>(
     ensures unstarted { result.board ≡ None → source.new ≡ source.old }
     ensures whole { S.ended source.new ≡ true → IsEmptyWhereTold (S.left source.new) }
 
-    ensures complete { (command : Command) (text : List ℕ) →
+    ensures complete { (command : Asked) (text : List ℕ) →
         accepted (map string_bytes words.now) ≡ Some command → S.left source.old ≡ Some text →
         S.faults source.new ≡ S.faults source.old → O.faults out.new ≡ O.faults out.old →
         MatchOption result.board (result.status ≡ 6)
@@ -107,53 +112,60 @@ pub fn run_alone<S: Source, O: Sink>(
 {
     verdicts_have_causes();
     large_budgets_answer();
-    let Some(command) = read_words(words) else {
-        return Finish {
-            status: WORDS_REFUSED,
-            board: None,
-        };
+    let run = match TextRun::read(alloc, words) {
+        Ok(run) => run,
+        Err(WordsFault::Refused) => {
+            return Finish {
+                status: WORDS_REFUSED,
+                board: None,
+            };
+        }
+        Err(WordsFault::Memory) => return finish_without_memory(out),
     };
-    match Board::new(alloc, command.rules()) {
-        Ok(board) => run_over(alloc, command, board, source, out),
-        Err(_) => Finish {
-            status: show_want_of_memory(out),
-            board: None,
-        },
+    match Board::new(alloc, run.rules) {
+        Ok(board) => run_over(alloc, &run, board, source, out),
+        Err(_) => finish_without_memory(out),
     }
 }
 
-// A run without memory for a board: says so, and answers the status.
-fn show_want_of_memory<O: Sink>(out: &mut O) -> u8
+// A run without memory for its words or for a board: says so.
+fn finish_without_memory<O: Sink>(out: &mut O) -> Finish
     requires sink_faults { O.faults out.old < last_count }
-    ensures status { (result ≡ 6) ⊎ (result ≡ 4) }
-    ensures whole { result ≡ 6 →
+    ensures board { result.board ≡ None }
+    ensures status { (result.status ≡ 6) ⊎ (result.status ≡ 4) }
+    ensures whole { result.status ≡ 6 →
         O.taken out.new ≡ appended (O.taken out.old) (last_line_of endings.Exhausted) }
-    ensures front { result ≡ 4 → (size : ℕ) × (O.taken out.new
+    ensures front { result.status ≡ 4 → (size : ℕ) × (O.taken out.new
         ≡ appended (O.taken out.old) (take size (last_line_of endings.Exhausted))) }
-    ensures sink { (result ≡ 4) ↔ (O.faults out.old < O.faults out.new) }
+    ensures sink { (result.status ≡ 4) ↔ (O.faults out.old < O.faults out.new) }
     ensures counts { O.faults out.old ≤ O.faults out.new }
 {
-    match close_without_memory(out) {
+    let status = match close_without_memory(out) {
         Ok(_) => NO_MEMORY,
         Err(Failed) => SINK_FAILED,
+    };
+    Finish {
+        status,
+        board: None,
     }
 }
 
 // A run over an empty board.
 fn run_over<S: Source, O: Sink>(
     alloc: Global,
-    command: Command,
+    run: &TextRun,
     board: Board,
     source: &mut S,
     out: &mut O,
 ) -> Finish
-    requires rules { board.rules ≡ rules_of command }
+    requires rules { board.rules ≡ run.now.rules }
+    requires alone { IsAlone run.now.rules }
     requires empty { board.journal ≡ [] }
     requires source_faults { S.faults source.old < last_count }
     requires sink_faults { O.faults out.old < last_count }
     requires unread { S.ended source.old ≡ false }
     ensures run { MatchOption result.board ⊥
-        (IsRun command (S.left source.old) (S.left source.new) (S.ended source.new)
+        (IsRun run.now.rules (S.left source.old) (S.left source.new) (S.ended source.new)
         (nat_lt (S.faults source.old) (S.faults source.new))
         (O.taken out.old) (O.taken out.new) result.status) }
     ensures closed { IfSome result.board (λ board. is_closed board.journal ≡ true) }
@@ -163,7 +175,7 @@ fn run_over<S: Source, O: Sink>(
         × (O.faults out.old ≤ O.faults out.new) }
 {
     let mut desk = Desk::new(alloc, board);
-    match solve(alloc, command.trace, &mut desk, source, out) {
+    match solve(alloc, run, &mut desk, source, out) {
         Ok(ending) => {
             let status = ending.status(&desk.board);
             give_back(desk, status)
@@ -178,7 +190,7 @@ fn run_over<S: Source, O: Sink>(
 // Writes the whole output, and says how the run ended.
 fn solve<S: Source, O: Sink>(
     alloc: Global,
-    trace: bool,
+    run: &TextRun,
     desk: &mut Desk,
     source: &mut S,
     out: &mut O,
@@ -188,11 +200,11 @@ fn solve<S: Source, O: Sink>(
     requires source_faults { S.faults source.old < last_count }
     requires unread { S.ended source.old ≡ false }
     ensures rules { desk.new.board.rules ≡ desk.old.board.rules }
-    ensures finished { IfOk result (λ ending. Finished trace ending
+    ensures finished { IfOk result (λ ending. Finished run.now.rules.traces ending
         (S.left source.old) (S.left source.new) (S.ended source.new)
         (nat_lt (S.faults source.old) (S.faults source.new)) desk.new.board
         (O.taken out.old) (O.taken out.new)) }
-    ensures front { OnErr result (FinishedInPart trace
+    ensures front { OnErr result (FinishedInPart run.now.rules.traces
         (S.left source.old) (S.left source.new) (S.ended source.new)
         (nat_lt (S.faults source.old) (S.faults source.new)) desk.new.board
         (O.taken out.old) (O.taken out.new)) }
@@ -201,7 +213,14 @@ fn solve<S: Source, O: Sink>(
     ensures later { S.faults source.old ≤ S.faults source.new }
     ensures cause { HasCause (O.faults out.old) (O.faults out.new) result }
 {
-    let ending = show_blocks(alloc, trace, desk, source, out)?;
+    let ending = show_blocks(
+        alloc,
+        run.rules.traces,
+        run.file.as_deref(),
+        desk,
+        source,
+        out,
+    )?;
     close_input(&mut desk.board);
     ending.close(alloc, out)
 }

@@ -7,15 +7,14 @@
 #![tactic(auto)]
 
 mod alone;
+mod asking;
 mod client;
 mod desk;
 mod endings;
 mod pieces;
 #[cfg(test)]
 mod tests;
-mod words;
 mod writer;
 
 pub use alone::{Finish, WORDS_REFUSED, run_alone};
 pub use endings::{NO_MEMORY, UNDECIDED};
-pub use words::Command;

@@ -26,12 +26,13 @@ fn buffer(alloc: Global, len: usize) -> Result<Vec<u8>, AllocError>
     vec![in alloc; 0u8; len]
 }
 
-/// Starts the source, reads its text piece by piece, settles the jobs that have ended, and writes
-/// their blocks before it reads on. It stops at the end of the text, at its first wrong place,
-/// where the source fails, or where memory runs out.
+/// Starts the source with the name of its file, if it has one, reads its text piece by piece,
+/// settles the jobs that have ended, and writes their blocks before it reads on. It stops at the
+/// end of the text, at its first wrong place, where the source fails, or where memory runs out.
 pub(crate) fn show_blocks<S: Source, O: Sink>(
     alloc: Global,
     trace: bool,
+    file: Option<&str>,
     desk: &mut Desk,
     source: &mut S,
     out: &mut O,
@@ -59,7 +60,7 @@ pub(crate) fn show_blocks<S: Source, O: Sink>(
     let Ok(mut buffer) = buffer(alloc, PIECE) else {
         return Ok(Ending::Exhausted);
     };
-    match source.start(None) {
+    match source.start(file) {
         Ok(()) => answer_pieces(alloc, trace, desk, &mut buffer, source, out),
         Err(Failed) => Ok(Ending::Unread),
     }

@@ -1,10 +1,10 @@
 //! Whole runs over a source and a sink in memory.
 
+mod command_lines;
 mod dialogue;
 mod faults;
 mod outcomes;
 mod texts;
-mod words;
 
 use crate::run_alone;
 use board_core::Board;

@@ -2,9 +2,10 @@
 
 use super::{Case, PLAIN, TWO_ANSWERS, TWO_JOBS, assert_output, run, words_of};
 use crate::{WORDS_REFUSED, run_alone};
-use run_io::{MemorySink, MemorySource};
+use run_io::{MemorySink, MemorySource, StdSource};
 use std::alloc::{AllocError, Global};
 use std::process::Abort;
+use std::rt::Files;
 use std::test::Fail;
 
 // Words that are accepted: whether the run shows traces, how many clauses an attempt may learn, and
@@ -26,31 +27,21 @@ const ACCEPTED: &[(&str, bool, u64, u32)] = &[
     ("--attempts 2 --conflicts 7 --trace", true, 7, 2),
     ("--conflicts 7 --trace --attempts 2", true, 7, 2),
     ("--attempts 2 --trace", true, 18_446_744_073_709_551_615, 2),
-    ("--attempts 2 --conflicts 7", false, 7, 2),
+    ("--attempts 2 --conflicts=7", false, 7, 2),
+    ("--workers 8 --first", false, 18_446_744_073_709_551_615, 1),
+    ("-- name", false, 18_446_744_073_709_551_615, 1),
 ];
 
 const REFUSED: &[&str] = &[
-    "--help",
-    "--Trace",
-    "--trace x",
-    "x --trace",
-    "pigeons.icnf",
-    "+1",
-    "--conflicts",
+    "--workers 0",
+    "--workers 65",
     "--conflicts 0",
-    "--conflicts 01",
-    "--conflicts +1",
-    "--conflicts -1",
-    "--conflicts 18446744073709551616",
-    "--conflicts=1",
-    "--conflicts --trace",
-    "--attempts",
-    "--attempts 0",
     "--attempts 65",
-    "--attempts 18446744073709551616",
-    "--trace --trace",
-    "--conflicts 1 --conflicts 2",
-    "--attempts 1 --attempts 1",
+    "--fast",
+    "--help",
+    "--first --first",
+    "name name",
+    "--sum 1 --trace",
 ];
 
 // These words are accepted, and the board has their rules.
@@ -111,6 +102,38 @@ fn assert_refused(alloc: Global, rt: &impl Abort, line: &str) -> Result<(), Allo
 fn other_words_are_refused(rt: HostRuntime) -> Result<(), Fail> {
     for line in REFUSED {
         assert_refused(rt.alloc(), &rt, line)?;
+    }
+    Ok(())
+}
+
+// A file of this name, and how a run over it ends.
+const FILES: &[(&str, &str, u8)] = &[
+    ("-- /dev/null", "refused 1 header\n", 2),
+    ("/no/such/file --workers=8", "fault read\n", 3),
+    ("--first /", "fault read\n", 3),
+];
+
+// A run over a file of the system.
+fn assert_file<R: Abort + Files + Input>(
+    alloc: Global,
+    rt: &R,
+    line: &str,
+    output: &str,
+    status: u8,
+) -> Result<(), AllocError> {
+    let words = words_of(alloc, line)?;
+    let mut source = StdSource::new(rt);
+    let mut sink = MemorySink::new(alloc, 1000, 1000, Vec::new(alloc))?;
+    let finish = run_alone(alloc, &words, &mut source, &mut sink);
+    assert_eq!(rt; sink.bytes(), output.as_bytes(), "{line}");
+    assert_eq!(rt; finish.status, status, "{line}");
+    Ok(())
+}
+
+#[test]
+fn the_file_of_the_words_is_read(rt: HostRuntime) -> Result<(), Fail> {
+    for (line, output, status) in FILES {
+        assert_file(rt.alloc(), &rt, line, output, *status)?;
     }
     Ok(())
 }
