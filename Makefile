@@ -3,7 +3,7 @@
 FILE ?= examples/counter.icnf
 
 .PHONY: run test bench profile bench-reader bench-checker bench-trace bench-learning
-.PHONY: bench-board bench-lock
+.PHONY: bench-board bench-lock bench-service
 
 # Proves what is not proved yet, builds the program, and solves FILE.
 run:
@@ -47,3 +47,8 @@ bench-learning:
 # A hundred thousand holds of the lock beside std's Mutex, by 1, 2 and 4 threads.
 bench-lock:
 	cd crates/tarmo_bench && rt run -- lock 100000
+
+# A hundred thousand calls of clients through the service, on a bare board, and round std's Mutex, by
+# 1, 2 and 4 threads.
+bench-service:
+	cd crates/tarmo_bench && rt run -- service 100000
