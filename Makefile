@@ -4,8 +4,8 @@ FILE ?= examples/counter.icnf
 PREFIX ?= /usr/local
 JOBS ?= $(shell nproc)
 
-.PHONY: run try prove install examples test bench profile bench-reader bench-checker bench-trace bench-learning
-.PHONY: bench-board bench-lock
+.PHONY: run try prove install examples test bench profile
+.PHONY: bench-reader bench-checker bench-trace bench-learning bench-board bench-lock bench-service
 
 # Proves what isn't proved yet, crates side by side, and says which; then builds the program and
 # solves FILE.
@@ -69,3 +69,8 @@ bench-learning:
 # A hundred thousand holds of the lock beside std's Mutex, by 1, 2 and 4 threads.
 bench-lock:
 	cd crates/tarmo_bench && rt run -- lock 100000
+
+# A hundred thousand calls of clients through the service, on a bare board, and round std's Mutex, by
+# 1, 2 and 4 threads.
+bench-service:
+	cd crates/tarmo_bench && rt run -- service 100000

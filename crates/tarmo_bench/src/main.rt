@@ -7,6 +7,7 @@
 
 mod board;
 mod checker;
+mod clients;
 mod learning;
 mod lock;
 mod reader;
@@ -26,6 +27,8 @@ tarmo_bench MEASURE [SIZES]
   trimming [STEPS]           trims and prints a derivation of so many steps
   board [JOBS]               adds so many jobs to a board, takes and ends each
   lock [HOLDS]               holds the lock so often, and std's Mutex beside it
+  service [JOBS]             adds so many jobs through the service and asks for each, and the same
+                             on a bare board and round std's Mutex
 
 With sizes the times are told.";
 
@@ -50,6 +53,7 @@ fn main(rt: HostRuntime) -> Result<()> {
         "trimming" => trimming::measure(&rt, size_at(&rt, 2)?),
         "board" => board::measure(&rt, size_at(&rt, 2)?),
         "lock" => lock::measure(&rt, rt.alloc(), size_at(&rt, 2)?),
+        "service" => clients::measure(&rt, rt.alloc(), size_at(&rt, 2)?),
         _ => {
             println!(rt; "{USAGE}")?;
             Ok(())

@@ -69,14 +69,31 @@ pub fn by_turn_lock<R: Threads + Wait + Clock + Sync>(
         items: Vec::new(alloc),
     };
     let (lock, mut passes) = TurnLock::make(alloc, log, threads)?;
-    let start = Instant::now(rt)?;
-    all_hold_often(rt, &lock, passes.as_mut_slice(), holds / threads as u64);
-    let time = start.elapsed(rt)?;
+    let micros = time_of_all(rt, &lock, passes.as_mut_slice(), holds / threads as u64);
     let log = lock.close(passes, Vec::new(alloc));
     Ok(Run {
-        micros: u64::try_from(time.as_micros()).unwrap_or(u64::MAX),
+        micros: micros?,
         holds: log.items.len(),
     })
+}
+
+// How many microseconds it takes that each pass holds the lock so often.
+fn time_of_all<R: Threads + Wait + Clock + Sync>(
+    rt: &R,
+    lock: &TurnLock<Log>,
+    passes: &mut [Pass<Log>],
+    times: u64,
+) -> io::Result<u64>
+    requires { All (λ pass. IsOf lock.now pass × (pass.idle ≡ true)) passes.old }
+    ensures { (k : ℕ) (d : PassView (ℕ × ℕ) ℕ) → k < length passes.old
+        → IsOf lock.now (slice_index_or passes.new k d)
+        × ((slice_index_or passes.new k d).idle ≡ true)
+        × ((slice_index_or passes.new k d).number ≡ (slice_index_or passes.old k d).number) }
+{
+    let start = Instant::now(rt);
+    all_hold_often(rt, lock, passes, times);
+    let time = start?.elapsed(rt)?;
+    Ok(u64::try_from(time.as_micros()).unwrap_or(u64::MAX))
 }
 
 fn lock_often<R: Wait>(rt: &R, log: &Mutex<Log>, caller: u32, times: u64) {
