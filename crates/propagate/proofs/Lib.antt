@@ -14,3 +14,4 @@ pub mod Visits
 pub mod Choices
 pub mod Settles
 pub mod Stores
+pub mod Rounds

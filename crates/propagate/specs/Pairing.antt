@@ -1,10 +1,11 @@
 -- Watched literals, and when a store of clauses and a trail are paired.
 use Rattle.std.specs.Prelude.{◌≡◌, ◌≢◌, ℕ, ◌+◌, ◌-◌, ◌*◌, ◌/◌, ◌%◌, ◌<◌, ◌≤◌, List, length, All}
-use Rattle.std.specs.Prelude.{Contains, ◌⊎◌, slice_index}
+use Rattle.std.specs.Prelude.{[], Contains, ◌⊎◌, slice_index}
 use Rattle.sat_base.specs.Lit.{opposite}
 use Rattle.clause_arena.specs.Arena.{ArenaClause, clause_at}
-use Rattle.trail_core.specs.Trail.{Entry, entry_at, lits_of}
+use Rattle.trail_core.specs.Trail.{Entry, TrailView, entry_at, lits_of}
 use Rattle.trail_core.specs.UnderTrail.{IsFalseLit}
+use Rattle.propagate.specs.Store.{StoreView}
 
 -- A side of a clause is one of its two watched places: a number, twice that of the clause and 0 or
 -- 1 more. This is the other one.
@@ -77,3 +78,15 @@ AreReady clauses fresh entries depth =
 pub record ArePendingAt (entries : List Entry) (looked level : ℕ) : Type 0 where
   pub each : (place : ℕ) → looked ≤ place → place < length entries
       → (entry_at entries place).level ≡ level
+
+-- what propagation asks of a store and a trail
+pub record AreFit (store : StoreView) (trail : TrailView) : Type 0 where
+  pub paired : IsPaired store.clauses store.fresh trail.entries trail.looked
+  pub ready : AreReady store.clauses store.fresh trail.entries trail.depth
+  pub pending : ArePendingAt trail.entries trail.looked trail.depth
+
+-- no clause is new, and all entries were looked at
+pub record IsSettled (store : StoreView) (trail : TrailView) : Type 0 where
+  pub paired : IsPaired store.clauses store.fresh trail.entries trail.looked
+  pub none_new : store.fresh ≡ []
+  pub looked : trail.looked ≡ length trail.entries

@@ -67,3 +67,6 @@ pub fn propagate(store: &mut Store, trail: &mut Trail) -> Option<usize>
     }
     look_at_all(&mut store.arena, &mut store.ring, trail)
 }
+
+#[cfg(test)]
+mod tests;
