@@ -4,7 +4,8 @@ ghost use Rattle.std.specs.Prelude.{◌≡◌, ◌+◌, ◌<◌, ◌≤◌, IfNo
 ghost use Rattle.sat_base.specs.Lit.{variable};
 ghost use Rattle.trail_core.specs.Trail.{IsTrail, lits_of};
 ghost use Rattle.trail_core.specs.UnderTrail.{IsUnassigned};
-ghost use Rattle.propagate.specs.Store.{AreWithin};
+ghost use Rattle.propagate.specs.Store.{AreWithin, AreNewFrom};
+ghost use Rattle.propagate.specs.Pairing.{IsSettled};
 ghost use Rattle.analyze.specs.Conflict.{IsReady, IsConflict};
 
 use crate::{Learnt, Scratch, learn, refute};
@@ -23,7 +24,8 @@ const VARS: u32 = 7;
 // A clause by its numbers, and its tag. The i-th of a text is `Input(i)`.
 type Row<'a> = (&'a [i32], u32);
 
-// Three pigeons in two holes.
+// Three pigeons in two holes. A clause that was added last is looked at first, so after decision 1
+// comes -5 before -3, and then 6 before 4.
 const PIGEONS: [Row; 9] = [
     (&[1, 2], 1),
     (&[3, 4], 1),
@@ -36,7 +38,7 @@ const PIGEONS: [Row; 9] = [
     (&[-4, -6], 1),
 ];
 
-// Variables 2 and 3 follow from 1, and 5 from 1 and 4; then the last clause is false.
+// Variables 2 and 3 follow from 1, and -5 from 2, 3 and 4; then the third clause is false.
 const IMPLIED: [Row; 4] = [
     (&[-1, 2], 1),
     (&[-2, 3], 2),
@@ -89,7 +91,7 @@ const CONFLICTS: [Wanted; 4] = [
         clause: &[-1],
         back: 0,
         tag: 1,
-        hints: &[Input(4), Input(5), Input(2), Input(3), Input(9)],
+        hints: &[Input(5), Input(4), Input(3), Input(2), Input(9)],
         met: &[1, 3, 4, 5, 6],
     },
     Wanted {
@@ -100,7 +102,7 @@ const CONFLICTS: [Wanted; 4] = [
         clause: &[-1, -4],
         back: 1,
         tag: 3,
-        hints: &[Input(1), Input(2), Input(3), Input(4)],
+        hints: &[Input(1), Input(2), Input(4), Input(3)],
         met: &[1, 2, 3, 4, 5],
     },
     Wanted {
@@ -114,7 +116,7 @@ const CONFLICTS: [Wanted; 4] = [
         clause: &[-1],
         back: 0,
         tag: 2,
-        hints: &[Input(1), Own(1), Input(3), Input(4)],
+        hints: &[Input(1), Own(1), Input(4), Input(3)],
         met: &[1, 2],
     },
     Wanted {
@@ -128,7 +130,7 @@ const CONFLICTS: [Wanted; 4] = [
         clause: &[-1, -4],
         back: 1,
         tag: 2,
-        hints: &[Input(1), Input(2), Input(3), Input(4)],
+        hints: &[Input(1), Input(2), Input(4), Input(3)],
         met: &[1, 2, 4, 5],
     },
 ];
@@ -150,8 +152,23 @@ fn is_within(clause: &Clause) -> bool
     clause.lits().iter().all(|lit| lit.var() <= 7)
 }
 
+// Adds a clause to a store whose clauses are all new, if it is over the variables 1 to 7.
+fn add(store: &mut Store, clause: &Clause, tag: u32, number: u32) -> Result<(), AllocError>
+    requires vars { store.old.vars ≡ 7 }
+    requires all_new { AreNewFrom store.old 0 }
+    ensures vars { store.new.vars ≡ 7 }
+    ensures all_new { AreNewFrom store.new 0 }
+{
+    if !is_within(clause) {
+        return Ok(());
+    }
+    store.add(clause, tag, Ref::Input(number))?;
+    Ok(())
+}
+
 fn load(alloc: Global, rows: &[Row]) -> Result<Store, AllocError>
-    ensures { IfOk result (λ store. store.vars ≡ 7) }
+    ensures vars { IfOk result (λ store. store.vars ≡ 7) }
+    ensures all_new { IfOk result (λ store. AreNewFrom store 0) }
 {
     let mut store = Store::new(alloc);
     store.reserve(VARS)?;
@@ -159,9 +176,7 @@ fn load(alloc: Global, rows: &[Row]) -> Result<Store, AllocError>
     for (numbers, tag) in rows {
         number = number.saturating_add(1);
         let clause = Clause::from_lits(alloc, &literals(alloc, numbers)?)?;
-        if is_within(&clause) {
-            store.add(&clause, *tag, Ref::Input(number))?;
-        }
+        add(&mut store, &clause, *tag, number)?;
     }
     Ok(store)
 }
@@ -169,11 +184,13 @@ fn load(alloc: Global, rows: &[Row]) -> Result<Store, AllocError>
 // Propagates at level 0 on an empty trail. True where no clause is false.
 fn begin(store: &mut Store, trail: &mut Trail) -> bool
     requires vars { store.old.vars ≡ trail.old.vars }
+    requires all_new { AreNewFrom store.old 0 }
     requires empty { trail.old.entries ≡ [] }
     requires depth { trail.old.depth ≡ 0 }
     ensures store_vars { store.new.vars ≡ store.old.vars }
     ensures vars { trail.new.vars ≡ trail.old.vars }
     ensures ready { IsTrue result → IsReady store.new.clauses trail.new }
+    ensures settled { IsTrue result → IsSettled store.new trail.new }
 {
     // Brings that the clauses have reserved variables only.
     let _ = store.arena();
@@ -185,6 +202,7 @@ fn begin(store: &mut Store, trail: &mut Trail) -> bool
 fn decide(store: &mut Store, trail: &mut Trail, lit: Lit) -> Option<usize>
     requires vars { store.old.vars ≡ trail.old.vars }
     requires ready { IsReady store.old.clauses trail.old }
+    requires settled { IsSettled store.old trail.old }
     requires trail { IsTrail trail.old }
     requires room { trail.old.depth < trail.old.vars }
     requires reserved { variable lit ≤ trail.old.vars }
@@ -192,6 +210,7 @@ fn decide(store: &mut Store, trail: &mut Trail, lit: Lit) -> Option<usize>
     ensures store_vars { store.new.vars ≡ store.old.vars }
     ensures vars { trail.new.vars ≡ trail.old.vars }
     ensures ready { IfNone result (IsReady store.new.clauses trail.new) }
+    ensures settled { IfNone result (IsSettled store.new trail.new) }
     ensures conflict { IfSome result (IsConflict store.new.clauses trail.new) }
 {
     trail.open_level();
@@ -208,6 +227,7 @@ fn search(store: &mut Store, trail: &mut Trail, decisions: &[Lit]) -> Option<usi
     requires reserved { trail.old.vars ≡ 7 }
     requires vars { store.old.vars ≡ trail.old.vars }
     requires ready { IsReady store.old.clauses trail.old }
+    requires settled { IsSettled store.old trail.old }
     ensures vars { trail.new.vars ≡ trail.old.vars }
     ensures ready { IfNone result (IsReady store.new.clauses trail.new) }
     ensures conflict { IfSome result (IsConflict store.new.clauses trail.new) }

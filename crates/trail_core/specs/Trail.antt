@@ -43,7 +43,8 @@ pub record IsFree (entries : List Entry) (var : ℕ) : Type 0 where
   pub none : (place : ℕ) → StandsAt entries var place → ⊥
 
 -- What holds of every trail: no variable stands twice, no literal is true and false, levels ascend
--- and none is above the depth, each variable is a reserved one, and what was looked at stands there.
+-- and none is above the depth, each variable is a reserved one, and what was looked at stands
+-- there.
 pub record IsTrail (trail : TrailView) : Type 0 where
   pub once : (var i j : ℕ) → StandsAt trail.entries var i → StandsAt trail.entries var j → i ≡ j
   pub consistent : (lit : ℕ) → Contains (lits_of trail.entries) lit

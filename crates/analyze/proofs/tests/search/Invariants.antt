@@ -1,4 +1,5 @@
 use Rattle.std.proofs.Common.{◌≡◌}
+use Rattle.propagate.specs.Pairing.{IsSettled}
 use Rattle.analyze.specs.Conflict.{IsReady}
 use Rattle.analyze.proofs.tests.search.Given as goal
 
@@ -7,4 +8,5 @@ invariant-loop-lit l = record {
   store_vars : l.store.vars ≡ l.fn.store.vars;
   vars : l.trail.vars ≡ l.fn.trail.vars;
   ready : IsReady l.store.clauses l.trail;
+  settled : IsSettled l.store l.trail;
 }
