@@ -8,7 +8,7 @@ use Rattle.std.proofs.lemmas.List.{length_push, length-map, map_push, length-tak
 use Rattle.std.proofs.lemmas.List.{get_or_append_left}
 use Rattle.std.proofs.lemmas.List.Elements.{All-nil, All-cons, All-get_or, All-contains}
 use Rattle.std.proofs.lemmas.List.Elements.{Contains-append_left, Contains-append_right}
-use Rattle.sat_base.specs.Lit.{IsLit, IsLitSet, IsTautology, is_ascending, variable, opposite}
+use Rattle.sat_base.specs.Lit.{IsLitSet, IsTautology, is_ascending, variable, opposite}
 use Rattle.sat_base.specs.Lit.{greatest_of, greatest_of_all}
 use Rattle.sat_base.specs.declared.origins.Ref.{Ref}
 use Rattle.sat_base.specs.declared.origins.Ref.TheVariants.{Own}
@@ -21,7 +21,7 @@ use Rattle.trace_core.specs.declared.derivation.Step.{Step}
 use Rattle.clause_arena.specs.Arena.{ArenaClause, clause_at, no_clause, lits_of_each}
 use Rattle.trail_core.specs.Trail.{Entry, TrailView, IsTrail, entry_at, no_entry, lits_of, up_to}
 use Rattle.trail_core.specs.UnderTrail.{IsFalseLit, IsFalseClause, IsUnassigned, IsForced}
-use Rattle.trail_core.specs.UnderTrail.{IsOpenClause, HasOthersFalse, lits_at}
+use Rattle.trail_core.specs.UnderTrail.{IsOpenClause, HasOthersFalse}
 use Rattle.propagate.specs.Store.{StoreView, AreWithin, AreAllWithin}
 use Rattle.propagate.proofs.Whole.{length-lits_of_each, lits_at-each}
 use Rattle.analyze.specs.Table.{IsNameOf, KnowsArena, KnowsUnits, unit_of, tag_of_unit}
@@ -40,12 +40,14 @@ use Rattle.session.proofs.Lists.{All-push, All-under}
 use Rattle.trace_core.proofs.Items.{item_at-last}
 use Rattle.session.proofs.UpTo.{below_greatest, greatest_within}
 use Rattle.session.proofs.Stocked.{stock_learnt, inputs_learnt}
-use Rattle.session.proofs.Fronts.{level_at, IsFront, Ascends, front_of, up_to_is, up_to_take}
+use Rattle.session.proofs.Fronts.{level_at, IsFront, Ascends, front_of, up_to_is, up_to_twice}
 use Rattle.session.proofs.Fronts.{entry_in}
 use Rattle.session.proofs.OnTrails.{back_on_trail, more_on_trail, forced_on_trail}
-use Rattle.session.proofs.Asserted.{IsOnce, open_below, forces}
+use Rattle.session.proofs.Asserted.{IsOnce, open_below, forces, unassigned_above}
 use Rattle.session.proofs.Searches.{name_of_clause}
-use Rattle.session.proofs.Cursor.{none_assigned, assigned_more_entries}
+use Rattle.session.specs.declared.search.Cursor.{Cursor}
+use Rattle.session.specs.Cursors.{PassesAssigned, cursor_at}
+use Rattle.session.proofs.Cursor.{assigned_stays, cursors_more, cursors_back}
 use Rattle.session.proofs.Steps.{pushed_steps}
 use Rattle.session.proofs.Learning.{contains_none}
 
@@ -68,11 +70,12 @@ false_proper trail clause is all both =
     (opposite-opposite both.lit) b.stands) a.stands
 
 -- a jump back
-pub search_back : (s : Search) (trail : TrailView) (level : ℕ) → IsSearching s → IsTrail trail
-    → level ≤ s.trail.depth → 0 < s.trail.depth
+pub search_back : (s : Search) (trail : TrailView) (level : ℕ) (cursor : Cursor)
+    (cursors : Vec Cursor Global) → IsSearching s → IsTrail trail → level < s.trail.depth
     → trail.entries ≡ up_to level s.trail.entries → trail.depth ≡ level → trail.vars ≡ s.trail.vars
-    → IsSearching (record s { trail = trail; cursor = 0 })
-search_back s trail level kept is le deep entries_are depth_is vars_are =
+    → cursor ≡ cursor_at s.cursors.items level → cursors.items ≡ take level s.cursors.items
+    → IsSearching (record s { trail = trail; cursor = cursor; cursors = cursors })
+search_back s trail level cursor cursors kept is deep entries_are depth_is vars_are cursor_is cursors_are =
     let (n, front) = front_of s.trail.entries level kept.trail.ascending in
     let taken : trail.entries ≡ take n s.trail.entries = entries_are
     ∙ up_to_is s.trail.entries level n front in
@@ -103,7 +106,7 @@ search_back s trail level kept is le deep entries_are depth_is vars_are =
           (sym entries_are)
           (subst (IsOnTrail (lits_of_each s.store.clauses) (up_to level s.trail.entries))
           (sym depth_is) (back_on_trail
-          (lits_of_each s.store.clauses) s.trail.entries s.trail.depth level kept.trail.ascending le kept.on));
+          (lits_of_each s.store.clauses) s.trail.entries s.trail.depth level kept.trail.ascending (omega (arith, deep)) kept.on));
       named = record {
         within = omega (arith, size, within n front all_in);
         zero = λ place lt. ap (λ (e : Entry). e.level) (same place (all_in place lt))
@@ -114,9 +117,11 @@ search_back s trail level kept is le deep entries_are depth_is vars_are =
             (kept.named.known place lt);
       };
       trail = is;
-      cursor = none_assigned (lits_of trail.entries);
+      levels = ap length cursors_are
+          ∙ length-take-le level s.cursors.items (omega (arith, deep, kept.levels)) ∙ sym depth_is;
+      cursors = cursors_back PassesAssigned s.trail trail level s.cursor cursor s.cursors.items cursors.items kept.trail.ascending deep entries_are depth_is cursor_is cursors_are kept.cursors;
       all_named = λ _ place lt zero. (let place_in : place < n = omega (arith, lt, size) in
-          kept.all_named deep place (omega (arith, place_in, front.within))
+          kept.all_named (omega (arith, deep)) place (omega (arith, place_in, front.within))
           (ap (λ (e : Entry). e.level) (sym (same place place_in)) ∙ zero));
     }
   where
@@ -153,105 +158,141 @@ named_push table entries entries' units tags n entry are named =
           (named.known place lt);
     }
 
--- A learnt clause comes to be held.
-pub search_added : (s : Search) (store : StoreView) (step : Step) (number : ℕ) → IsSearching s
-    → store.clauses ≡ s.store.clauses ++ record {
-      lits = step.clause;
-      tag = step.tag;
-      origin = Own number;
-    } ∷ [] → store.vars ≡ s.store.vars
-    → IsStep s.steps.items number (known_of step) → All IsLit step.clause
-    → IsTrue (is_ascending step.clause) → AreWithin s.greatest step.clause
-    → ((level : ℕ) → level < s.trail.depth → IsOpenClause
-    (lits_of (up_to level s.trail.entries)) step.clause)
-    → IsSearching (record s { store = store })
-search_added s store step number kept added vars_are is lits ascending within is_open = record {
-  stock = subst (λ clauses. IsStocked clauses (packets_of s) s.steps.items s.bound) (sym added)
-      (stock_learnt s.store.clauses
-      (packets_of s) s.steps.items s.bound step number kept.stock is lits ascending);
-  room = record {
-    over = subst (λ clauses. AreAllWithin s.greatest clauses) (sym added)
-        (All-push (λ (clause : ArenaClause). AreWithin s.greatest clause.lits) s.store.clauses learnt kept.room.over within);
-    reserved = kept.room.reserved;
-    store = omega (arith, kept.room.store, vars_are);
-    scratch = kept.room.scratch;
-    units = kept.room.units;
-    tags = kept.room.tags;
-  };
-  counted = record {
-    greatest = kept.counted.greatest ∙ ap (λ inputs. greatest_of_all (clauses_of inputs))
-        (sym inputs);
-    inputs = kept.counted.inputs ∙ ap length (sym inputs);
-    learnt = subst (λ held. All (λ number. (one : Known) × IsStep s.steps.items number one
-        × Contains held one) s.learnt.items) (sym held)
-        (All-under (λ number. (one : Known) × IsStep s.steps.items number one
-        × Contains (held_of s.store.clauses) one)
-        (λ number. (one : Known) × IsStep s.steps.items number one
-        × Contains (held_of s.store.clauses ++ known_clause learnt ∷ []) one) s.learnt.items
-        (λ n (one, named, there). (
-          one,
-          named,
-          Contains-append_left (held_of s.store.clauses)
-              (known_clause learnt ∷ []) one there,
-        )) kept.counted.learnt);
-  };
-  on = subst (λ lits. IsOnTrail lits s.trail.entries s.trail.depth)
-      (sym (ap lits_of_each added
-      ∙ map_push (λ (clause : ArenaClause). clause.lits) s.store.clauses learnt))
-      (more_on_trail (lits_of_each s.store.clauses) step.clause s.trail.entries s.trail.depth is_open kept.on);
-  named = subst (λ inputs. IsNamed (named_by inputs
-      (packets_of s) s.steps.items) s.trail.entries s.units.items s.tags.items s.named)
-      (sym inputs) kept.named;
-  trail = kept.trail;
-  cursor = kept.cursor;
-  all_named = kept.all_named;
-}
-  where
-    learnt : ArenaClause
-    learnt = record { lits = step.clause; tag = step.tag; origin = Own number }
-
-    inputs : inputs_of store.clauses ≡ inputs_of s.store.clauses
-    inputs = ap inputs_of added ∙ inputs_learnt s.store.clauses step.clause step.tag number
-
-    held : held_of store.clauses ≡ held_of s.store.clauses ++ known_clause learnt ∷ []
-    held = ap held_of added ∙ map_push known_clause s.store.clauses learnt
-
 pub known_learnt : (step : Step) (number : ℕ) → IsTrue (is_ascending step.clause)
     → known_clause (record { lits = step.clause; tag = step.tag; origin = Own number })
     ≡ known_of step
 known_learnt step number ascending = ap (λ lits. record { clause = lits; tag = step.tag })
     (in_order-itself step.clause ascending)
 
--- Its step is listed.
-pub search_listed : (s : Search) (learnt : Vec ℕ Global) (number : ℕ) (one : Known) → IsSearching s
-    → learnt.items ≡ s.learnt.items ++ number ∷ [] → IsStep s.steps.items number one
-    → Contains (held_of s.store.clauses) one
-    → IsSearching (record s { learnt = learnt })
-search_listed s learnt number one kept listed is held = record {
-  stock = kept.stock;
+pub is_held : (held held' : List Known) (one : Known) → held' ≡ held ++ one ∷ []
+    → Contains held' one
+is_held held held' one is = subst (λ (xs : List Known). Contains xs one) (sym is)
+    (Contains-append_right held (one ∷ []) one (Contains-here one []))
+
+-- the step's clause is one of these
+abbrev IsLearntIn : Search → List Known → ℕ → Type 0
+IsLearntIn s held number = (one : Known) × IsStep s.steps.items number one × Contains held one
+
+-- A learnt clause comes to be held, its step is listed, and its literal becomes true.
+pub search_taught : (s : Search) (store : StoreView) (trail : TrailView) (learnt : Vec ℕ Global)
+    (step : Step) (number id lit : ℕ) → IsSearching s
+    → store.clauses ≡ s.store.clauses ++ record {
+      lits = step.clause;
+      tag = step.tag;
+      origin = Own number;
+    } ∷ [] → store.vars ≡ s.store.vars → learnt.items ≡ s.learnt.items ++ number ∷ []
+    → trail.entries ≡ s.trail.entries ++ record {
+      lit = lit;
+      level = s.trail.depth;
+      reason = Some id;
+    } ∷ [] → trail.depth ≡ s.trail.depth → trail.vars ≡ s.trail.vars → IsTrail trail
+    → id ≡ length s.store.clauses
+    → IsStep s.steps.items number (known_of step) → IsLitSet step.clause
+    → AreWithin s.greatest step.clause
+    → ((level : ℕ) → level < s.trail.depth → IsOpenClause
+    (lits_of (up_to level s.trail.entries)) step.clause)
+    → HasOthersFalse (lits_of s.trail.entries) step.clause lit
+    → IsSearching (record s { store = store; trail = trail; learnt = learnt })
+search_taught s store trail learnt step number id lit kept added store_vars listed entries_are depth_is vars_are is_trail id_is is set within is_open others = record {
+  stock = subst (λ clauses. IsStocked clauses (packets_of s) s.steps.items s.bound) (sym added)
+      (stock_learnt s.store.clauses
+      (packets_of s) s.steps.items s.bound step number kept.stock is set.each set.ascending);
   room = record {
-    over = kept.room.over;
-    reserved = kept.room.reserved;
-    store = kept.room.store;
-    scratch = kept.room.scratch;
-    units = kept.room.units;
-    tags = kept.room.tags;
+    over = subst (λ clauses. AreAllWithin s.greatest clauses) (sym added)
+        (All-push (λ (clause : ArenaClause). AreWithin s.greatest clause.lits) s.store.clauses clause kept.room.over within);
+    reserved = omega (arith, kept.room.reserved, vars_are);
+    store = omega (arith, kept.room.store, vars_are, store_vars);
+    scratch = omega (arith, kept.room.scratch, vars_are);
+    units = omega (arith, kept.room.units, vars_are);
+    tags = omega (arith, kept.room.tags, vars_are);
   };
   counted = record {
-    greatest = kept.counted.greatest;
-    inputs = kept.counted.inputs;
-    learnt = subst (λ numbers. All (λ n. (x : Known) × IsStep s.steps.items n x
-        × Contains (held_of s.store.clauses) x) numbers) (sym listed)
-        (All-push (λ n. (x : Known) × IsStep s.steps.items n x
-        × Contains (held_of s.store.clauses) x) s.learnt.items number kept.counted.learnt
-        (one, is, held));
+    greatest = kept.counted.greatest ∙ ap (λ inputs. greatest_of_all (clauses_of inputs))
+        (sym inputs);
+    inputs = kept.counted.inputs ∙ ap length (sym inputs);
+    learnt = subst (λ (held : List Known). All (IsLearntIn s held) learnt.items) (sym held)
+        (subst (All (IsLearntIn s (held_of s.store.clauses ++ known_clause clause ∷ []))) (sym listed)
+        (All-push (IsLearntIn s (held_of s.store.clauses ++ known_clause clause ∷ [])) s.learnt.items number
+        (All-under (IsLearntIn s (held_of s.store.clauses))
+        (IsLearntIn s (held_of s.store.clauses ++ known_clause clause ∷ [])) s.learnt.items
+        (λ n (one, named, there). (
+          one,
+          named,
+          Contains-append_left (held_of s.store.clauses)
+              (known_clause clause ∷ []) one there,
+        )) kept.counted.learnt) (
+          known_of step,
+          is,
+          is_held (held_of s.store.clauses)
+              (held_of s.store.clauses ++ known_clause clause ∷ []) (known_of step)
+              (ap (λ one. held_of s.store.clauses ++ one ∷ []) (known_learnt step number set.ascending)),
+        )));
   };
-  on = kept.on;
-  named = kept.named;
-  trail = kept.trail;
-  cursor = kept.cursor;
-  all_named = kept.all_named;
+  on = subst (λ (es : List Entry). IsOnTrail (lits_of_each store.clauses) es trail.depth)
+      (sym entries_are)
+      (subst (IsOnTrail (lits_of_each store.clauses) (s.trail.entries ++ entry ∷ []))
+      (sym depth_is) (forced_on_trail
+      (lits_of_each store.clauses) s.trail.entries s.trail.depth entry on_added forced refl));
+  named = subst (λ inputs. IsNamed (named_by inputs
+      (packets_of s) s.steps.items) trail.entries s.units.items s.tags.items s.named)
+      (sym inputs)
+      (named_push (table_of s) s.trail.entries trail.entries s.units.items s.tags.items s.named entry entries_are kept.named);
+  trail = is_trail;
+  levels = kept.levels ∙ sym depth_is;
+  cursors = cursors_more PassesAssigned s.trail trail (entry ∷ []) s.cursor s.cursors.items assigned_stays entries_are depth_is kept.cursors;
+  all_named = λ deep place lt zero. all_at deep place lt zero
+      (cases_lt place (length s.trail.entries));
 }
+  where
+    clause : ArenaClause
+    clause = record { lits = step.clause; tag = step.tag; origin = Own number }
+
+    entry : Entry
+    entry = record { lit = lit; level = s.trail.depth; reason = Some id }
+
+    inputs : inputs_of store.clauses ≡ inputs_of s.store.clauses
+    inputs = ap inputs_of added ∙ inputs_learnt s.store.clauses step.clause step.tag number
+
+    held : held_of store.clauses ≡ held_of s.store.clauses ++ known_clause clause ∷ []
+    held = ap held_of added ∙ map_push known_clause s.store.clauses clause
+
+    on_added : IsOnTrail (lits_of_each store.clauses) s.trail.entries s.trail.depth
+    on_added = subst (λ lits. IsOnTrail lits s.trail.entries s.trail.depth)
+        (sym (ap lits_of_each added
+        ∙ map_push (λ (clause : ArenaClause). clause.lits) s.store.clauses clause))
+        (more_on_trail (lits_of_each s.store.clauses) step.clause s.trail.entries s.trail.depth is_open kept.on)
+
+    forced : IsForced (lits_of_each store.clauses) s.trail.entries entry
+    forced = record {
+      id = id;
+      reason = refl;
+      known = omega (arith, id_is, ap length added, length_push s.store.clauses clause, length-lits_of_each store.clauses);
+      rest = subst (λ (lits : List ℕ). HasOthersFalse (lits_of s.trail.entries) lits lit)
+          (sym (lits_at-each store.clauses id
+          (omega (arith, id_is, ap length added, length_push s.store.clauses clause))
+          ∙ ap (λ (cs : List ArenaClause). (clause_at cs id).lits) added
+          ∙ ap (λ (one : ArenaClause). one.lits) (get_or_push s.store.clauses clause no_clause id
+          (sym id_is)))) others;
+    }
+
+    size : length trail.entries ≡ length s.trail.entries + 1
+    size = ap length entries_are ∙ length_push s.trail.entries entry
+
+    all_at : 0 < trail.depth → (place : ℕ) → place < length trail.entries
+        → level_at trail.entries place ≡ 0 → (place < length s.trail.entries)
+        ⊎ (length s.trail.entries ≤ place) → place < s.named
+    all_at deep place lt zero (inl old) =
+        kept.all_named (omega (arith, deep, depth_is)) place old
+        (ap (λ (e : Entry). e.level) (sym (get_or_append_left s.trail.entries
+        (entry ∷ []) no_entry place old)) ∙ ap (λ (es : List Entry). level_at es place)
+        (sym entries_are) ∙ zero)
+    all_at deep place lt zero (inr new) =
+        let last : place ≡ length s.trail.entries = omega (arith, lt, new, size) in
+        let here : level_at trail.entries place ≡ entry.level = ap
+        (λ (es : List Entry). level_at es place) entries_are
+        ∙ ap (λ (e : Entry). e.level) (get_or_push s.trail.entries entry no_entry place
+        (sym last)) in
+        absurd (omega (arith, here, zero, deep, depth_is))
 
 pub search_unlisted : (s : Search) (learnt : Vec ℕ Global) → IsSearching s
     → learnt.items ≡ s.learnt.items → IsSearching (record s { learnt = learnt })
@@ -274,62 +315,10 @@ search_unlisted s learnt kept same = record {
   on = kept.on;
   named = kept.named;
   trail = kept.trail;
-  cursor = kept.cursor;
+  levels = kept.levels;
+  cursors = kept.cursors;
   all_named = kept.all_named;
 }
-
--- Its literal becomes true.
-pub search_assigned : (s : Search) (trail : TrailView) (entry : Entry) → IsSearching s
-    → trail.entries ≡ s.trail.entries ++ entry ∷ [] → trail.depth ≡ s.trail.depth
-    → trail.vars ≡ s.trail.vars → entry.level ≡ s.trail.depth
-    → IsForced (lits_of_each s.store.clauses) s.trail.entries entry → IsTrail trail
-    → IsSearching (record s { trail = trail })
-search_assigned s trail entry kept entries_are depth_is vars_are level forced is = record {
-  stock = kept.stock;
-  room = record {
-    over = kept.room.over;
-    reserved = omega (arith, kept.room.reserved, vars_are);
-    store = omega (arith, kept.room.store, vars_are);
-    scratch = omega (arith, kept.room.scratch, vars_are);
-    units = omega (arith, kept.room.units, vars_are);
-    tags = omega (arith, kept.room.tags, vars_are);
-  };
-  counted = record {
-    greatest = kept.counted.greatest;
-    inputs = kept.counted.inputs;
-    learnt = kept.counted.learnt;
-  };
-  on = subst (λ (es : List Entry). IsOnTrail (lits_of_each s.store.clauses) es trail.depth)
-      (sym entries_are)
-      (subst (IsOnTrail (lits_of_each s.store.clauses) (s.trail.entries ++ entry ∷ []))
-      (sym depth_is) (forced_on_trail
-      (lits_of_each s.store.clauses) s.trail.entries s.trail.depth entry kept.on forced level));
-  named = named_push (table_of s) s.trail.entries trail.entries s.units.items s.tags.items s.named entry entries_are kept.named;
-  trail = is;
-  cursor = assigned_more_entries s.trail.entries
-      (entry ∷ []) trail.entries s.cursor entries_are kept.cursor;
-  all_named = λ deep place lt zero. all_at deep place lt zero
-      (cases_lt place (length s.trail.entries));
-}
-  where
-    size : length trail.entries ≡ length s.trail.entries + 1
-    size = ap length entries_are ∙ length_push s.trail.entries entry
-
-    all_at : 0 < trail.depth → (place : ℕ) → place < length trail.entries
-        → level_at trail.entries place ≡ 0 → (place < length s.trail.entries)
-        ⊎ (length s.trail.entries ≤ place) → place < s.named
-    all_at deep place lt zero (inl old) =
-        kept.all_named (omega (arith, deep, depth_is)) place old
-        (ap (λ (e : Entry). e.level) (sym (get_or_append_left s.trail.entries
-        (entry ∷ []) no_entry place old)) ∙ ap (λ (es : List Entry). level_at es place)
-        (sym entries_are) ∙ zero)
-    all_at deep place lt zero (inr new) =
-        let last : place ≡ length s.trail.entries = omega (arith, lt, new, size) in
-        let here : level_at trail.entries place ≡ entry.level = ap
-        (λ (es : List Entry). level_at es place) entries_are
-        ∙ ap (λ (e : Entry). e.level) (get_or_push s.trail.entries entry no_entry place
-        (sym last)) in
-        absurd (omega (arith, here, zero, level, deep, depth_is))
 
 -- Variables of clauses.
 -- the table without clauses of greater variables
@@ -456,20 +445,6 @@ held_last clauses clauses' step number added ascending =
     (record { lits = step.clause; tag = step.tag; origin = Own number })
     ∙ ap (λ one. held_of clauses ++ one ∷ []) (known_learnt step number ascending)
 
-pub is_held : (held held' : List Known) (one : Known) → held' ≡ held ++ one ∷ []
-    → Contains held' one
-is_held held held' one is = subst (λ (xs : List Known). Contains xs one) (sym is)
-    (Contains-append_right held (one ∷ []) one (Contains-here one []))
-
--- the entries up to a level, among those up to a higher one
-pub up_to_twice : (entries : List Entry) (level high : ℕ) → Ascends entries → level ≤ high
-    → up_to level (up_to high entries) ≡ up_to level entries
-up_to_twice entries level high up le =
-    let (n, front) = front_of entries high up in
-    ap (up_to level) (up_to_is entries high n front)
-    ∙ sym (up_to_take entries n level front.within
-    (record { each = λ k from to. let h = front.high.each k from to in omega (arith, h, le) }))
-
 -- a lesson's clause is open below the level to which the trail went back
 pub lesson_open : (s : Search) (lesson : Lesson) (trail : TrailView) → IsTrail s.trail
     → IsLesson s lesson → trail.entries ≡ up_to lesson.back s.trail.entries
@@ -483,35 +458,22 @@ lesson_open s lesson trail is l entries_are depth_is level lt =
     (open_below s.trail.entries s.trail.depth lesson.back level lesson.clause is.ascending is.once l.asserting (omega (arith, lt, depth_is)))
 
 -- its literal is forced
-pub lesson_forces : (s : Search) (lesson : Lesson) (trail : TrailView) (clauses : List ArenaClause)
-    (number id lit : ℕ) → IsTrail s.trail → IsLesson s lesson
-    → trail.entries ≡ up_to lesson.back s.trail.entries
-    → clauses ≡ s.store.clauses ++ record {
-      lits = lesson.clause;
-      tag = lesson.step.tag;
-      origin = Own number;
-    } ∷ [] → id ≡ length s.store.clauses
+pub lesson_forces : (s : Search) (lesson : Lesson) (trail : TrailView) (lit : ℕ) → IsTrail s.trail
+    → IsLesson s lesson → trail.entries ≡ up_to lesson.back s.trail.entries
     → Contains lesson.clause lit → IsUnassigned (lits_of trail.entries) lit
-    → IsForced (lits_of_each clauses) trail.entries
-    (record { lit = lit; level = trail.depth; reason = Some id })
-lesson_forces s lesson trail clauses number id lit is l entries_are clauses_are id_is has free = record {
-  id = id;
-  reason = refl;
-  known = omega (arith, id_is, ap length clauses_are, length_push s.store.clauses learnt, length-lits_of_each clauses);
-  rest = subst (λ (lits : List ℕ). HasOthersFalse (lits_of trail.entries) lits lit) (sym read)
-      (subst (λ (es : List Entry). HasOthersFalse (lits_of es) lesson.clause lit) (sym entries_are)
-      (learnt_forces s.trail.entries s.trail.depth lesson.back lesson.clause lit is.ascending is.once l.asserting l.refuted has (subst (λ (es : List Entry). IsUnassigned (lits_of es) lit) entries_are free)));
-}
-  where
-    learnt : ArenaClause
-    learnt = record { lits = lesson.clause; tag = lesson.step.tag; origin = Own number }
+    → HasOthersFalse (lits_of trail.entries) lesson.clause lit
+lesson_forces s lesson trail lit is l entries_are has free =
+    subst (λ (es : List Entry). HasOthersFalse (lits_of es) lesson.clause lit) (sym entries_are)
+    (learnt_forces s.trail.entries s.trail.depth lesson.back lesson.clause lit is.ascending is.once l.asserting l.refuted has (subst (λ (es : List Entry). IsUnassigned (lits_of es) lit) entries_are free))
 
-    read : lits_at (lits_of_each clauses) id ≡ lesson.clause
-    read = lits_at-each clauses id
-        (omega (arith, id_is, ap length clauses_are, length_push s.store.clauses learnt))
-        ∙ ap (λ (cs : List ArenaClause). (clause_at cs id).lits) clauses_are
-        ∙ ap (λ (one : ArenaClause). one.lits) (get_or_push s.store.clauses learnt no_clause id
-        (sym id_is))
+-- one of its literals is unassigned
+pub lesson_free : (s : Search) (lesson : Lesson) (trail : TrailView) → IsTrail s.trail
+    → IsLesson s lesson → trail.entries ≡ up_to lesson.back s.trail.entries
+    → ((lit : ℕ) → Contains lesson.clause lit → IsUnassigned (lits_of trail.entries) lit → ⊥) → ⊥
+lesson_free s lesson trail is l entries_are none =
+    none l.asserting.lit l.asserting.stands
+    (subst (λ (es : List Entry). IsUnassigned (lits_of es) l.asserting.lit) (sym entries_are)
+    (unassigned_above s.trail.entries l.asserting.lit lesson.back s.trail.depth is.ascending is.once l.asserting.present l.asserting.below))
 
 pub learnt_one : (old s : Search) (l : Lesson) (number : ℕ) → IsSearching old → IsLesson old l
     → IsLitSet l.clause → s.steps.items ≡ old.steps.items ++ l.step ∷ []
@@ -568,29 +530,28 @@ learnt_one old s l number kept lesson set pushed last listed added bound packets
         omega (arith, low, kept.counted.greatest)
 
 -- the lesson is learnt, call after call
-pub lesson_learnt : (old p b h new : Search) (l : Lesson) (number : ℕ) → IsSearching old
+pub lesson_learnt : (old p b h : Search) (l : Lesson) (number : ℕ) → IsSearching old
     → IsLesson old l → IsLitSet l.clause
     → p ≡ record old { steps = p.steps } → p.steps.items ≡ old.steps.items ++ l.step ∷ []
     → number ≡ length p.steps.items
-    → b ≡ record p { trail = b.trail; cursor = 0 }
-    → h ≡ record b { store = h.store; learnt = h.learnt }
+    → b ≡ record p { trail = b.trail; cursor = b.cursor; cursors = b.cursors }
+    → h ≡ record b { store = h.store; trail = h.trail; learnt = h.learnt }
     → h.store.clauses ≡ b.store.clauses ++ record {
       lits = l.clause;
       tag = l.step.tag;
       origin = Own number;
     } ∷ [] → h.learnt.items ≡ b.learnt.items ++ number ∷ []
-    → solver_of new ≡ solver_of h → LearnsOne (solver_of old) (solver_of new)
-lesson_learnt old p b h new l number kept lesson set stepped pushed last back held added listed same =
-    subst (LearnsOne (solver_of old)) (sym same)
-    (learnt_one old h l number kept lesson set
+    → LearnsOne (solver_of old) (solver_of h)
+lesson_learnt old p b h l number kept lesson set stepped pushed last back held added listed =
+    learnt_one old h l number kept lesson set
     (ap (λ (x : Search). x.steps.items) held ∙ ap (λ (x : Search). x.steps.items) back ∙ pushed)
     (last ∙ ap (λ (x : Search). length x.steps.items) (sym back)
     ∙ ap (λ (x : Search). length x.steps.items) (sym held))
     (listed ∙ ap (λ (x : Search). x.learnt.items ++ number ∷ [])
-    (back ∙ ap (λ (x : Search). record x { trail = b.trail; cursor = 0 }) stepped))
+    (back ∙ ap (λ (x : Search). record x { trail = b.trail; cursor = b.cursor; cursors = b.cursors }) stepped))
     (added ∙ ap (λ (x : Search). x.store.clauses
     ++ record { lits = l.clause; tag = l.step.tag; origin = Own number } ∷ [])
-    (back ∙ ap (λ (x : Search). record x { trail = b.trail; cursor = 0 }) stepped))
+    (back ∙ ap (λ (x : Search). record x { trail = b.trail; cursor = b.cursor; cursors = b.cursors }) stepped))
     (ap (λ (x : Search). x.bound) held ∙ ap (λ (x : Search). x.bound) back
     ∙ ap (λ (x : Search). x.bound) stepped)
-    (ap packets_of held ∙ ap packets_of back ∙ ap packets_of stepped))
+    (ap packets_of held ∙ ap packets_of back ∙ ap packets_of stepped)

@@ -1,7 +1,7 @@
 -- Lists of items that all keep something, and the greatest of numbers.
 use Rattle.std.proofs.Common.{◌≡◌, ◌∙◌, ℕ, ◌<◌, ◌≤◌, List, [], ◌∷◌, ◌++◌, length, map, refl, ap, sym}
 use Rattle.std.proofs.Common.{subst, inl, inr, arith, get_or}
-use Rattle.std.specs.Prelude.{◌⊎◌, All, Contains, max}
+use Rattle.std.specs.Prelude.{◌⊎◌, All, Contains, Result, Ok, Err, OnOk}
 use Rattle.std.proofs.lemmas.List.{get_or_push, get_or_append_left, length_push}
 use Rattle.std.proofs.lemmas.Bool.{cases_lt}
 use Rattle.sat_base.proofs.Members.{Contains-here, Contains-there}
@@ -38,3 +38,9 @@ greatest_below (n ∷ numbers) bound each =
     let first = each n (Contains-here n numbers) in
     let rest = greatest_below numbers bound (λ m has. each m (Contains-there n m numbers has)) in
     omega (arith, first, rest)
+
+-- what comes of two things that hold after an Ok
+pub both_ok : {T E : Type 0} (result : Result T E) (P Q R : Type 0) → (P → Q → R) → OnOk result P
+    → OnOk result Q → OnOk result R
+both_ok (Ok value) P Q R f p q = f p q
+both_ok (Err error) P Q R f p q = tt

@@ -118,7 +118,8 @@ search_restored s store kept clauses vars = record {
       (packets_of s) s.steps.items) s.trail.entries s.units.items s.tags.items s.named)
       (sym clauses) kept.named;
   trail = kept.trail;
-  cursor = kept.cursor;
+  levels = kept.levels;
+  cursors = kept.cursors;
   all_named = kept.all_named;
 }
 
@@ -168,7 +169,8 @@ search_raised s bound kept le = record {
   on = kept.on;
   named = kept.named;
   trail = kept.trail;
-  cursor = kept.cursor;
+  levels = kept.levels;
+  cursors = kept.cursors;
   all_named = kept.all_named;
 }
 

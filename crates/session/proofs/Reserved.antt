@@ -6,7 +6,7 @@ use Rattle.std.specs.Prelude.{All, Contains, ◌==◌, cond, slice_get, option_m
 use Rattle.std.specs.Arc.{arc_value}
 use Rattle.std.proofs.lemmas.Option.{none-some}
 use Rattle.std.proofs.lemmas.List.{take_all, take_more, get_or-take, length-take, map_push}
-use Rattle.std.proofs.lemmas.List.{length_push}
+use Rattle.std.proofs.lemmas.List.{length_push, append-nil}
 use Rattle.std.proofs.lemmas.List.Elements.{Contains-append_left, filter-append}
 use Rattle.sat_base.specs.Lit.{IsLitSet, variable, greatest_of, greatest_of_all}
 use Rattle.sat_base.specs.declared.origins.Ref.{Ref}
@@ -30,7 +30,8 @@ use Rattle.sat_base.proofs.InOrder.{in_order-itself}
 use Rattle.session.proofs.Stocked.{stock_input, named_with_input}
 use Rattle.session.proofs.Reasons.{named_stays}
 use Rattle.session.proofs.OnTrails.{more_on_trail}
-use Rattle.session.proofs.Cursor.{none_assigned}
+use Rattle.session.specs.Cursors.{PassesAssigned}
+use Rattle.session.proofs.Cursor.{none_assigned, assigned_stays, cursors_more, cursors_at_zero}
 use Rattle.session.proofs.UpTo.{below_greatest}
 
 -- the greatest variable, literal by literal
@@ -114,7 +115,9 @@ search_reserved s store scratch units tags trail kept is clauses entries depth m
         known = λ place lt. known_at place lt;
       }));
   trail = is;
-  cursor = subst (λ (es : List Entry). AreAssigned (lits_of es) s.cursor) (sym entries) kept.cursor;
+  levels = kept.levels ∙ sym depth;
+  cursors = cursors_more PassesAssigned s.trail trail [] s.cursor s.cursors.items assigned_stays
+      (entries ∙ sym (append-nil s.trail.entries)) depth kept.cursors;
   all_named = λ deep place lt bottom. kept.all_named (omega (arith, deep, depth)) place
       (omega (arith, lt, ap length entries)) (ap (λ (es : List Entry). (entry_at es place).level)
       (sym entries) ∙ bottom);
@@ -216,7 +219,8 @@ search_input s clause store tag number greatest most kept zero set le last great
       (λ name known is. named_with_input (inputs_of s.store.clauses) one
       (packets_of s) s.steps.items name known is) kept.named);
   trail = kept.trail;
-  cursor = kept.cursor;
+  levels = kept.levels;
+  cursors = kept.cursors;
   all_named = λ deep. absurd (omega (arith, deep, zero));
 }
   where
@@ -252,8 +256,9 @@ none_known packets place number one none is = at (place == 0)
 -- a search without inputs
 pub new_search : (s : Search) → s.store.clauses ≡ [] → s.trail.entries ≡ [] → s.trail.depth ≡ 0
     → s.trail.vars ≡ 0 → s.packets.items ≡ [] → s.steps.items ≡ [] → s.learnt.items ≡ []
-    → s.named ≡ 0 → s.cursor ≡ 0 → s.greatest ≡ 0 → s.inputs ≡ 0 → IsSearching s
-new_search s clauses entries depth vars packets steps learnt named cursor greatest inputs = record {
+    → s.named ≡ 0 → s.cursor.variables ≡ 0 → s.cursors.items ≡ [] → s.greatest ≡ 0
+    → s.inputs ≡ 0 → IsSearching s
+new_search s clauses entries depth vars packets steps learnt named cursor cursors greatest inputs = record {
   stock = subst (λ cs. IsStocked cs (packets_of s) s.steps.items s.bound) (sym clauses) (subst (λ xs. IsStocked [] (packets_of s) xs s.bound) (sym steps) (record {
     lits = λ i d lt. absurd (omega (arith, lt));
     named = λ i d lt. absurd (omega (arith, lt));
@@ -306,8 +311,10 @@ new_search s clauses entries depth vars packets steps learnt named cursor greate
     few = omega (arith, ap length entries, vars);
     shallow = omega (arith, depth, vars);
   };
-  cursor = subst (AreAssigned (lits_of s.trail.entries)) (sym cursor)
-      (none_assigned (lits_of s.trail.entries));
+  levels = omega (arith, ap length cursors, depth);
+  cursors = cursors_at_zero PassesAssigned s.trail s.cursor s.cursors.items depth
+      (subst (AreAssigned (lits_of s.trail.entries)) (sym cursor)
+      (none_assigned (lits_of s.trail.entries)));
   all_named = λ deep. absurd (omega (arith, deep, depth));
 }
   where

@@ -57,7 +57,8 @@ with_steps search steps stock grows numbered s = record {
   named = named_stays (table_of search) (named_by (inputs_of search.store.clauses)
       (packets_of search) steps.items) search.trail.entries search.units.items search.tags.items search.named grows s.named;
   trail = s.trail;
-  cursor = s.cursor;
+  levels = s.levels;
+  cursors = s.cursors;
   all_named = s.all_named;
 }
 
@@ -190,7 +191,8 @@ search_named s units tags name tag lit kept lt zero is one units_are tags_are = 
       (units_are ∙ ap (λ x. set s.units.items (variable x - 1) name) is)
       (tags_are ∙ ap (λ x. set s.tags.items (variable x - 1) tag) is);
   trail = kept.trail;
-  cursor = kept.cursor;
+  levels = kept.levels;
+  cursors = kept.cursors;
   all_named = λ deep. absurd (omega (arith, deep, zero));
 }
   where

@@ -21,7 +21,8 @@ use Rattle.session.specs.Searching.{IsSearching, packets_of, AreAllNamed, table_
 use Rattle.session.specs.Fronts.{IsFront}
 use Rattle.session.proofs.SameClauses.{AreOneByOne, one_by_one, inputs_same, held_same, stock_same}
 use Rattle.session.proofs.OnTrails.{propagated_on_trail}
-use Rattle.session.proofs.Cursor.{assigned_grown}
+use Rattle.session.specs.Cursors.{PassesAssigned}
+use Rattle.session.proofs.Cursor.{assigned_stays, cursors_grown}
 use Rattle.session.proofs.Fronts.{level_at, entry_in}
 
 pub pairs_of : (s : Search) (store : StoreView) → IsSearching s
@@ -74,7 +75,8 @@ search_propagated s store trail kept same store_vars grown founded depth_is vars
         (kept.named.known place lt);
   });
   trail = is;
-  cursor = assigned_grown (lits_of_each store.clauses) s.trail.depth s.cursor s.trail.entries trail.entries grown kept.cursor;
+  levels = kept.levels ∙ sym depth_is;
+  cursors = cursors_grown PassesAssigned (lits_of_each store.clauses) s.trail trail s.cursor s.cursors.items assigned_stays grown depth_is kept.cursors;
   all_named = λ deep place lt zero. all_at deep place lt zero
       (cases_lt place (length s.trail.entries));
 }

@@ -336,7 +336,8 @@ search_took s new place packet one kept bottom parts more free takable ascends a
       (named_with_place (inputs_of s.store.clauses) (packets_of s)
       (packets_of new) s.steps.items place packet more free) kept.named);
   trail = kept.trail;
-  cursor = kept.cursor;
+  levels = kept.levels;
+  cursors = kept.cursors;
   all_named = kept.all_named;
 })
   where
@@ -482,7 +483,8 @@ search_unplaced s new kept parts store packets = subst (λ (x : Search). IsSearc
   named = subst (λ ps. IsNamed
       (named_by (inputs_of s.store.clauses) ps s.steps.items) s.trail.entries s.units.items s.tags.items s.named) (sym packets) kept.named;
   trail = kept.trail;
-  cursor = kept.cursor;
+  levels = kept.levels;
+  cursors = kept.cursors;
   all_named = kept.all_named;
 })
 
@@ -526,7 +528,8 @@ search_knows s new place packet kept parts more free is_held = subst (λ (x : Se
   named = named_stays (table_of s) (named_by inputs
       (packets_of new) s.steps.items) s.trail.entries s.units.items s.tags.items s.named grows kept.named;
   trail = kept.trail;
-  cursor = kept.cursor;
+  levels = kept.levels;
+  cursors = kept.cursors;
   all_named = kept.all_named;
 })
   where

@@ -6,7 +6,7 @@ use Rattle.trace_core.specs.Known.{Known}
 use Rattle.session.specs.declared.search.Search.{Search}
 use Rattle.session.specs.declared.rounds.Round.{Round}
 use Rattle.session.specs.declared.rounds.Round.TheVariants.{Model, Refuted, Paused}
-use Rattle.session.specs.OnTrail.{IsForCube}
+use Rattle.session.specs.Cubes.{IsOnCube}
 use Rattle.session.specs.Solver.{IsStep}
 use Rattle.session.specs.Searching.{IsSearching}
 
@@ -20,7 +20,7 @@ pub record AreVariables (search : Search) (cube : List ℕ) (vars : ℕ) : Type 
 -- What the functions of a round keep for its cube.
 pub record IsInRound (search : Search) (cube : List ℕ) (vars : ℕ) : Type 0 where
   pub kept : IsSearching search
-  pub for_cube : IsForCube cube search.trail.entries
+  pub on_cube : IsOnCube cube search
   pub variables : AreVariables search cube vars
 
 -- a clause that contains none of these

@@ -13,7 +13,8 @@ use Rattle.propagate.specs.Store.{AreAllWithin}
 use Rattle.session.specs.declared.search.Search.{Search}
 use Rattle.session.specs.Solver.{Solver, inputs_of, held_of, clauses_of, named_by, IsStep}
 use Rattle.session.specs.Stock.{IsStocked}
-use Rattle.session.specs.OnTrail.{AreAssigned, IsOnTrail}
+use Rattle.session.specs.OnTrail.{IsOnTrail}
+use Rattle.session.specs.Cursors.{AreCursors, PassesAssigned}
 use Rattle.session.specs.Units.{IsNamed}
 
 -- the packet of each place that is known
@@ -61,7 +62,8 @@ pub record IsSearching (search : Search) : Type 0 where
       search.named
   pub all_named : 0 < search.trail.depth → (place : ℕ) → place < length search.trail.entries
       → (entry_at search.trail.entries place).level ≡ 0 → place < search.named
-  pub cursor : AreAssigned (lits_of search.trail.entries) search.cursor
+  pub levels : length search.cursors.items ≡ search.trail.depth
+  pub cursors : AreCursors PassesAssigned search.trail search.cursor search.cursors.items
 
 -- every unit clause of level 0 has its name
 pub record AreAllNamed (search : Search) : Type 0 where

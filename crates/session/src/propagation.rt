@@ -3,7 +3,7 @@
 ghost use Rattle.std.specs.Prelude.{◌≡◌, ◌≤◌, [], length, IfOk, OnOk, IfSome, IfNone};
 ghost use Rattle.trail_core.specs.UnderTrail.{IsComplete};
 ghost use Rattle.clause_arena.specs.Arena.{lits_of_each};
-ghost use Rattle.session.specs.OnTrail.{AddsNoDecision};
+ghost use Rattle.session.specs.Cubes.{KeepsCubes};
 ghost use Rattle.session.specs.Searching.{IsSearching, HasSameVariables, IsConflict, HasUnitsMore};
 ghost use Rattle.session.specs.Searching.{AreAllNamed, solver_of};
 ghost use Rattle.session.specs.Solving.{Learns};
@@ -20,7 +20,7 @@ pub(crate) fn propagate_and_name(search: &mut Search) -> Result<Option<usize>, A
     ensures kept { IsSearching search.new }
     ensures learns { Learns (solver_of search.old) (solver_of search.new) [] [] }
     ensures variables { HasSameVariables search.old search.new }
-    ensures decisions { AddsNoDecision search.old.trail.entries search.new.trail.entries }
+    ensures cubes { KeepsCubes search.old search.new }
     ensures grown { length search.old.trail.entries ≤ length search.new.trail.entries }
     ensures conflict { IfOk result (λ found. IfSome found (IsConflict search.new)) }
     ensures complete { IfOk result (λ found. IfNone found

@@ -13,7 +13,7 @@
 ghost use Rattle.std.specs.Prelude.{◌≡◌, ℕ, ◌<◌, List, [], length, IfOk, IfSome, IfNone};
 ghost use Rattle.trail_core.specs.UnderTrail.{IsComplete};
 ghost use Rattle.clause_arena.specs.Arena.{lits_of_each};
-ghost use Rattle.session.specs.OnTrail.{AddsNoDecision};
+ghost use Rattle.session.specs.Cubes.{KeepsCubes};
 ghost use Rattle.session.specs.Searching.{IsSearching, AreAllNamed, HasSameVariables, IsConflict};
 ghost use Rattle.session.specs.Searching.{solver_of};
 ghost use Rattle.session.specs.Rounds.{IsInRound};
@@ -97,7 +97,7 @@ fn resolve_conflict(search: &mut Search, id: usize) -> Result<Option<Round>, All
     ensures kept { IsSearching search.new }
     ensures keeps { Keeps (solver_of search.old) (solver_of search.new) }
     ensures variables { HasSameVariables search.old search.new }
-    ensures decisions { AddsNoDecision search.old.trail.entries search.new.trail.entries }
+    ensures cubes { KeepsCubes search.old search.new }
     ensures ends { IfOk result (λ end. IfSome end
         (λ round. (cube : List ℕ) → Concludes (solver_of search.old)
         (solver_of search.new) cube round)) }
@@ -170,7 +170,7 @@ fn decide_or_answer(
 {
     match next_move(&search.trail, &mut search.cursor, cube, vars) {
         Move::Decide(lit) => {
-            decide(search, lit);
+            decide(search, lit)?;
             Ok(None)
         }
         Move::Blame(lit) => {
