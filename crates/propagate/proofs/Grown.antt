@@ -6,10 +6,10 @@ use Rattle.std.proofs.lemmas.List.{length_push, get_or_push, get_or_append_left,
 use Rattle.trail_core.specs.Trail.{Entry, no_entry, entry_at, lits_of}
 use Rattle.trail_core.specs.UnderTrail.{lits_at, IsUnitClause, IsForced, IsFounded, HasGrown}
 
-old_entry : (t : List Entry) (e : Entry) (i : ℕ) → i < length t → entry_at (t ++ e ∷ []) i ≡ entry_at t i
+pub old_entry : (t : List Entry) (e : Entry) (i : ℕ) → i < length t → entry_at (t ++ e ∷ []) i ≡ entry_at t i
 old_entry t e i lt = get_or_append_left t (e ∷ []) no_entry i lt
 
-new_entry : (t : List Entry) (e : Entry) (i : ℕ) → i ≡ length t → entry_at (t ++ e ∷ []) i ≡ e
+pub new_entry : (t : List Entry) (e : Entry) (i : ℕ) → i ≡ length t → entry_at (t ++ e ∷ []) i ≡ e
 new_entry t e i at = get_or_push t e no_entry i (sym at)
 
 old_forced : (clauses : List (List ℕ)) (t : List Entry) (e : Entry) (i : ℕ) → i < length t → IsForced clauses (take i t) (entry_at t i) → IsForced clauses (take i (t ++ e ∷ [])) (entry_at (t ++ e ∷ []) i)

@@ -1,3 +1,16 @@
 pub mod Judged
 pub mod Grown
 pub mod Whole
+pub mod Keeps
+pub mod Fresh
+pub mod Same
+pub mod Swaps
+pub mod Literals
+pub mod Walks
+pub mod Moves
+pub mod Steps
+pub mod Complete
+pub mod Visits
+pub mod Choices
+pub mod Settles
+pub mod Stores

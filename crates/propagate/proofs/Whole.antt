@@ -1,7 +1,6 @@
 -- All clauses of a store.
-use Rattle.std.proofs.Common.{◌≡◌, ℕ, ◌+◌, inl, inr, ◌<◌, ◌≤◌, List, [], length, refl, subst, sym, arith}
-use Rattle.std.specs.Prelude.{◌⊎◌, All}
-use Rattle.std.proofs.lemmas.Bool.{cases_lt}
+use Rattle.std.proofs.Common.{◌≡◌, ℕ, ◌<◌, ◌≤◌, List, [], length, refl, subst, sym, arith}
+use Rattle.std.specs.Prelude.{All}
 use Rattle.std.proofs.lemmas.List.{get_or-map, length-map}
 use Rattle.std.proofs.lemmas.List.Elements.{All-from_get_or, All-contains_itself}
 use Rattle.clause_arena.specs.Arena.{ArenaClause, clause_at, no_clause, lits_of_each}
@@ -38,11 +37,3 @@ same_clauses clauses = record {
     origin = refl;
   };
 }
-
--- one more clause that is open
-pub open_more : (trues : List ℕ) (clauses : List ArenaClause) (id : ℕ) → ((k : ℕ) → k < id → IsOpenClause trues (clause_at clauses k).lits) → IsOpenClause trues (clause_at clauses id).lits → (k : ℕ) → k < id + 1 → IsOpenClause trues (clause_at clauses k).lits
-open_more trues clauses id old new k lt = at (cases_lt k id)
-  where
-    at : (k < id) ⊎ (id ≤ k) → IsOpenClause trues (clause_at clauses k).lits
-    at (inl l) = old k l
-    at (inr g) = let e : id ≡ k = omega arith in subst (λ n. IsOpenClause trues (clause_at clauses n).lits) e new

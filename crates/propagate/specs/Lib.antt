@@ -1,4 +1,7 @@
 pub mod Store
-pub mod Scan
+pub mod Pairing
+pub mod Lists
+pub mod Places
 pub mod Layout
-pub mod Progress
+pub mod Choice
+pub mod Walk

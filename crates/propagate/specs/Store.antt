@@ -17,6 +17,11 @@ AreWithin vars lits = All (λ lit. variable lit ≤ vars) lits
 abbrev pub AreAllWithin : ℕ → List ArenaClause → Type 0
 AreAllWithin vars clauses = All (λ clause. AreWithin vars clause.lits) clauses
 
+-- the clauses from this number on are new to propagation
+abbrev pub AreNewFrom : StoreView → ℕ → Type 0
+AreNewFrom store number =
+    (id : ℕ) → number ≤ id → id < length store.clauses → Contains store.fresh id
+
 -- the same set of literals, as many, under the same name
 pub record IsSameClause (old new : ArenaClause) : Type 0 where
   pub kept : All (Contains new.lits) old.lits

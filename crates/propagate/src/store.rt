@@ -1,20 +1,24 @@
 //! A store of clauses.
 
 ghost use Rattle.std.specs.Prelude.{◌≡◌, ◌+◌, ◌<◌, ◌≤◌, nat_lt, max, [], ◌∷◌, ◌++◌, length, take};
-ghost use Rattle.std.specs.Prelude.{IfOk, OnOk, OnErr};
+ghost use Rattle.std.specs.Prelude.{All, IfOk, OnOk, OnErr};
 ghost use Rattle.std.specs.List.{filter};
-ghost use Rattle.propagate.specs.Store.{AreWithin, AreAllWithin};
+ghost use Rattle.propagate.specs.Store.{AreWithin, AreAllWithin, AreNewFrom};
 
 use clause_arena::Arena;
 use sat_base::{Clause, Ref};
 use std::alloc::{AllocError, Global};
 use std::marker::Model;
+use watch_ring::WatchRing;
 
 /// An arena of clauses with what propagation needs to find them. Contracts see a store as its
 /// clauses, the numbers of those that are new to propagation, and how many variables are reserved.
 #[derive(Debug, Drop)]
 pub struct Store {
     pub(crate) arena: Arena,
+    pub(crate) ring: WatchRing,
+    // The clauses from this number on are new: they stand in no list.
+    pub(crate) watched: usize,
     vars: u32,
 }
 
@@ -37,39 +41,54 @@ impl Store {
     {
         Store {
             arena: Arena::new(alloc),
+            ring: WatchRing::new(alloc),
+            watched: 0,
             vars: 0,
         }
     }
 
-    /// Reserves the variables 1 to `vars`; those that are reserved already stay so.
+    /// Reserves the variables 1 to `vars`; those that are reserved already stay so. Takes eight
+    /// bytes for each variable up to 8,388,607.
     pub fn reserve(&mut self, vars: u32) -> Result<(), AllocError>
         ensures clauses { self.new.clauses ≡ self.old.clauses }
         ensures fresh { self.new.fresh ≡ self.old.fresh }
         ensures ok { OnOk result (self.new.vars ≡ max self.old.vars vars) }
         ensures err { OnErr result (self.new ≡ self.old) }
     {
-        if vars > self.vars {
-            self.vars = vars;
+        if vars <= self.vars {
+            return Ok(());
         }
+        let clauses = self.arena.len();
+        self.ring.reserve(vars, clauses)?;
+        self.vars = vars;
         Ok(())
     }
 
-    /// Adds a clause behind the others and answers its number.
+    /// Adds a clause behind the others and answers its number. It is new to propagation. Besides
+    /// what the arena takes it takes eight bytes. More than 2,147,483,647 clauses are answered as
+    /// want of memory.
     pub fn add(&mut self, clause: &Clause, tag: u32, origin: Ref) -> Result<usize, AllocError>
         requires { AreWithin self.old.vars clause.now }
         ensures number { IfOk result (λ id. id ≡ length self.old.clauses) }
         ensures ok { OnOk result
             (self.new.clauses
             ≡ self.old.clauses ++ record { lits = clause.now; tag = tag; origin = origin } ∷ []) }
+        ensures fresh { OnOk result
+            (self.new.fresh ≡ self.old.fresh ++ length self.old.clauses ∷ []) }
         ensures vars { self.new.vars ≡ self.old.vars }
         ensures err { OnErr result (self.new ≡ self.old) }
     {
+        let Some(clauses) = self.arena.len().checked_add(1) else {
+            return Err(AllocError);
+        };
+        self.ring.reserve(self.vars, clauses)?;
         self.arena.add(clause, tag, origin)
     }
 
-    /// Takes back the clauses behind the first `len`. Where there are no more than that, nothing
-    /// changes. Takes no memory.
+    /// Takes back the clauses behind the first `len`, which are new to propagation. Where there are
+    /// no more than that, nothing changes. Takes no memory.
     pub fn truncate(&mut self, len: usize)
+        requires { AreNewFrom self.old len }
         ensures clauses { self.new.clauses ≡ take len self.old.clauses }
         ensures fresh { self.new.fresh ≡ filter (λ id. nat_lt id len) self.old.fresh }
         ensures vars { self.new.vars ≡ self.old.vars }
@@ -81,6 +100,7 @@ impl Store {
     pub fn arena(&self) -> &Arena
         ensures value { result.now ≡ self.now.clauses }
         ensures reserved { AreAllWithin self.now.vars self.now.clauses }
+        ensures fresh { All (λ id. id < length self.now.clauses) self.now.fresh }
     {
         &self.arena
     }

@@ -12,16 +12,16 @@ use Rattle.trail_core.specs.UnderTrail.{IsUnassigned}
 use Rattle.trail_core.specs.Truth.{HasTruth}
 use Rattle.trail_core.specs.Standing.{place_of, reason_of, IsStandingOf}
 use Rattle.trail_core.specs.Layout.{places, truth_at, standing_at, AreTables, IsLaidOut}
-use Rattle.trail_core.proofs.Views.{entries_of, lits_of-entries, index_in, standing_found}
+use Rattle.trail_core.proofs.Views.{entries_of, lits_of-entries, index_in, standing_found, trail_from}
 use Rattle.trail_core.proofs.Push.{with_truths, IsPush, pushed, entries_pushed}
 use Rattle.trail_core.proofs.Pop.{popped}
 use Rattle.trail_core.proofs.Grow.{KeepsStandings, wider, wider_entries, more_vars}
 
-abbrev pub view_of : List Standing → List ℕ → ℕ → ℕ → TrailView
-view_of standings trues depth vars = record { entries = entries_of standings trues; depth = depth; vars = vars }
+abbrev pub view_of : List Standing → List ℕ → ℕ → ℕ → ℕ → TrailView
+view_of standings trues depth vars looked = record { entries = entries_of standings trues; depth = depth; vars = vars; looked = looked }
 
-pub trues_are : (standings : List Standing) (trues : List ℕ) (depth vars : ℕ) (now : TrailView) → view_of standings trues depth vars ≡ now → lits_of now.entries ≡ trues
-trues_are standings trues depth vars now is = sym (ap (λ (t : TrailView). lits_of t.entries) is) ∙ lits_of-entries standings trues
+pub trues_are : (standings : List Standing) (trues : List ℕ) (depth vars looked : ℕ) (now : TrailView) → view_of standings trues depth vars looked ≡ now → lits_of now.entries ≡ trues
+trues_are standings trues depth vars looked now is = sym (ap (λ (t : TrailView). lits_of t.entries) is) ∙ lits_of-entries standings trues
 
 pub length-trues : (truths : List Truth) (standings : List Standing) (lits : List ℕ) (count depth vars : ℕ) → IsLaidOut truths standings lits count depth vars → length (take count lits) ≡ count
 length-trues truths standings lits count depth vars laid = length-take-le count lits laid.count_within
@@ -29,6 +29,11 @@ length-trues truths standings lits count depth vars laid = length-take-le count 
 pub few : (truths : List Truth) (standings : List Standing) (lits : List ℕ) (count depth vars : ℕ) → IsLaidOut truths standings lits count depth vars → count ≤ places vars
 few truths standings lits count depth vars laid =
     omega (arith, laid.tables.counted, laid.tables.value_places, length-trues truths standings lits count depth vars laid)
+
+-- a trail's fields are those of a trail
+pub trail_kept : (truths : List Truth) (standings : List Standing) (lits : List ℕ) (count depth vars looked : ℕ) → IsLaidOut truths standings lits count depth vars → looked ≤ count → IsTrail (view_of standings (take count lits) depth vars looked)
+trail_kept truths standings lits count depth vars looked laid at =
+    trail_from truths standings (take count lits) depth vars looked laid.tables (omega (arith, at, length-trues truths standings lits count depth vars laid))
 
 -- a literal that may come
 pub record IsAssignable (vars lit : ℕ) (trues : List ℕ) : Type 0 where

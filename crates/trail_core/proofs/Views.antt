@@ -72,8 +72,8 @@ level_at : (standings : List Standing) (trues : List ℕ) (place : ℕ) → plac
 level_at standings trues place lt = ap (λ entry. entry.level) (entry_at-entries standings trues place lt)
 
 -- the tables keep what holds of every trail
-pub trail_from : (truths : List Truth) (standings : List Standing) (trues : List ℕ) (depth vars : ℕ) → AreTables truths standings trues depth vars → IsTrail (record { entries = entries_of standings trues; depth = depth; vars = vars })
-trail_from truths standings trues depth vars t = record {
+pub trail_from : (truths : List Truth) (standings : List Standing) (trues : List ℕ) (depth vars looked : ℕ) → AreTables truths standings trues depth vars → looked ≤ length trues → IsTrail (record { entries = entries_of standings trues; depth = depth; vars = vars; looked = looked })
+trail_from truths standings trues depth vars looked t at = record {
   once = λ var i j p q.
       let a = variable_at standings trues var i p in
       let b = variable_at standings trues var j q in
@@ -91,6 +91,7 @@ trail_from truths standings trues depth vars t = record {
       (λ lit h. (omega arith, omega (arith, h.1, t.value_places))) trues t.within);
   few = omega (arith, t.counted, t.value_places, length-entries standings trues);
   shallow = t.shallow;
+  looked_at = omega (arith, at, length-entries standings trues);
 }
 
 -- a literal is one of the tables'

@@ -37,6 +37,7 @@ trail_of a = record {
   entries = map (entry_of a.standings.items) (trues_of a);
   depth = a.depth;
   vars = a.vars;
+  looked = a.looked;
 }
 
 -- the tables over these true literals
@@ -62,5 +63,6 @@ pub record IsLaidOut (truths : List Truth) (standings : List Standing) (lits : L
   pub lit_places : places vars ≤ length lits
   pub count_within : count ≤ length lits
 
-abbrev pub IsKept : Inside → Type 0
-IsKept a = IsLaidOut a.values.items a.standings.items a.lits.items a.count a.depth a.vars
+pub record IsKept (a : Inside) : Type 0 where
+  pub laid : IsLaidOut a.values.items a.standings.items a.lits.items a.count a.depth a.vars
+  pub looked_at : a.looked ≤ a.count

@@ -10,12 +10,13 @@ pub record Entry : Type 0 where
   pub level : ℕ
   pub reason : Option ℕ
 
--- the entries in the order in which they came, the present level, and how many variables are
--- reserved: 1 to that number
+-- the entries in the order in which they came, the present level, how many variables are reserved:
+-- 1 to that number, and how many of the first entries propagation has looked at
 pub record TrailView : Type 0 where
   pub entries : List Entry
   pub depth : ℕ
   pub vars : ℕ
+  pub looked : ℕ
 
 -- what stands for an entry at a place that none has
 abbrev pub no_entry : Entry
@@ -42,7 +43,7 @@ pub record IsFree (entries : List Entry) (var : ℕ) : Type 0 where
   pub none : (place : ℕ) → StandsAt entries var place → ⊥
 
 -- What holds of every trail: no variable stands twice, no literal is true and false, levels ascend
--- and none is above the depth, and each variable is a reserved one.
+-- and none is above the depth, each variable is a reserved one, and what was looked at stands there.
 pub record IsTrail (trail : TrailView) : Type 0 where
   pub once : (var i j : ℕ) → StandsAt trail.entries var i → StandsAt trail.entries var j → i ≡ j
   pub consistent : (lit : ℕ) → Contains (lits_of trail.entries) lit
@@ -54,3 +55,4 @@ pub record IsTrail (trail : TrailView) : Type 0 where
       (λ entry. (1 ≤ variable entry.lit) × (variable entry.lit ≤ trail.vars)) trail.entries
   pub few : length trail.entries ≤ trail.vars
   pub shallow : trail.depth ≤ trail.vars
+  pub looked_at : trail.looked ≤ length trail.entries

@@ -1,6 +1,6 @@
 //! The trail.
 
-ghost use Rattle.std.specs.Prelude.{◌≡◌, ◌≢◌, ℕ, ◌+◌, ◌-◌, ◌<◌, ◌≤◌, max, List, [], ◌∷◌, ◌++◌};
+ghost use Rattle.std.specs.Prelude.{◌≡◌, ◌≢◌, ℕ, ◌+◌, ◌-◌, ◌<◌, ◌≤◌, min, max, List, [], ◌∷◌, ◌++◌};
 ghost use Rattle.std.specs.Prelude.{length, take, All, Option, Some, None, IfSome, IfNone, OnOk};
 ghost use Rattle.std.specs.Prelude.{OnErr, IsTrue, not};
 ghost use Rattle.sat_base.specs.Lit.{variable};
@@ -22,14 +22,15 @@ const GREATEST_VARIABLE: u32 = 8_388_607;
 
 /// The literals that are true, in the order in which they became so, each with its level and its
 /// reason. A level above 0 begins with a decision; a reason is the number of the clause that forced
-/// the literal. Contracts see a trail as its entries, its depth and how many variables are
-/// reserved.
+/// the literal. Contracts see a trail as its entries, its depth, how many variables are reserved,
+/// and how many of its first literals propagation has looked at.
 #[derive(Debug, Drop)]
 pub struct Trail {
     values: Vec<Truth>,
     standings: Vec<Standing>,
     lits: Vec<Lit>,
     count: usize,
+    looked: usize,
     depth: u32,
     vars: u32,
     counts: Counts,
@@ -53,12 +54,14 @@ impl Trail {
         ensures entries { result.entries ≡ [] }
         ensures depth { result.depth ≡ 0 }
         ensures vars { result.vars ≡ 0 }
+        ensures looked { result.looked ≡ 0 }
     {
         Trail {
             values: Vec::new(alloc),
             standings: Vec::new(alloc),
             lits: Vec::new(alloc),
             count: 0,
+            looked: 0,
             depth: 0,
             vars: 0,
             counts: Counts::none(),
@@ -70,6 +73,7 @@ impl Trail {
     pub fn reserve(&mut self, vars: u32) -> Result<(), AllocError>
         ensures entries { self.new.entries ≡ self.old.entries }
         ensures depth { self.new.depth ≡ self.old.depth }
+        ensures looked { self.new.looked ≡ self.old.looked }
         ensures ok { OnOk result (self.new.vars ≡ max self.old.vars vars) }
         ensures err { OnErr result (self.new ≡ self.old) }
     {
@@ -94,6 +98,7 @@ impl Trail {
             ++ record { lit = lit; level = self.old.depth; reason = reason } ∷ [] }
         ensures depth { self.new.depth ≡ self.old.depth }
         ensures vars { self.new.vars ≡ self.old.vars }
+        ensures looked { self.new.looked ≡ self.old.looked }
     {
         let code = lit.code() as usize;
         let opposite = lit.negated().code() as usize;
@@ -115,6 +120,7 @@ impl Trail {
         ensures entries { self.new.entries ≡ self.old.entries }
         ensures depth { self.new.depth ≡ self.old.depth + 1 }
         ensures vars { self.new.vars ≡ self.old.vars }
+        ensures looked { self.new.looked ≡ self.old.looked }
     {
         let depth = self.depth + 1;
         self.set_depth(depth);
@@ -122,12 +128,14 @@ impl Trail {
     }
 
     /// Takes back exactly the literals of higher levels than this one, which is the present level
-    /// then. Takes no memory.
+    /// then. The number of literals that were looked at is lowered to those that are left. Takes no
+    /// memory.
     pub fn back_to(&mut self, level: u32)
         requires { level ≤ self.old.depth }
         ensures entries { self.new.entries ≡ up_to level self.old.entries }
         ensures depth { self.new.depth ≡ level }
         ensures vars { self.new.vars ≡ self.old.vars }
+        ensures looked { self.new.looked ≡ min self.old.looked (length self.new.entries) }
     {
         while self.ends_above(level) {
             self.drop_last();
@@ -156,8 +164,10 @@ impl Trail {
         ensures entries { self.new.entries ≡ take (length self.old.entries - 1) self.old.entries }
         ensures depth { self.new.depth ≡ self.old.depth }
         ensures vars { self.new.vars ≡ self.old.vars }
+        ensures looked { self.new.looked ≡ min self.old.looked (length self.old.entries - 1) }
     {
         self.count -= 1;
+        self.looked = self.looked.min(self.count);
         let last = self.lits[self.count];
         self.values[last.code() as usize - 2] = Truth::Unassigned;
         self.values[last.negated().code() as usize - 2] = Truth::Unassigned;
@@ -177,6 +187,23 @@ impl Trail {
         ensures trail { IsTrail self.now }
     {
         self.depth
+    }
+
+    /// How many of its first literals propagation has looked at: the clauses that watch their
+    /// opposites were gone through.
+    pub fn looked(&self) -> usize
+        ensures value { result ≡ self.now.looked }
+        ensures trail { IsTrail self.now }
+    {
+        self.looked
+    }
+
+    /// Sets how many of the first literals propagation has looked at. Takes no memory.
+    pub fn mark(&mut self, n: usize)
+        requires { n ≤ length self.old.entries }
+        ensures { self.new ≡ record self.old { looked = n } }
+    {
+        self.looked = n;
     }
 
     /// The literals that are true, in the order in which they became so.

@@ -47,9 +47,14 @@ fn literals_come_and_go_by_levels(rt: HostRuntime) -> Result<(), Fail> {
         assert_eq!(rt; trail.place(var), place, "of {var}");
     }
     assert_eq!(rt; trail.lits().len(), 3);
+    assert_eq!(rt; trail.looked(), 0);
+    assert!(rt; trail.lits().len() >= 2);
+    trail.mark(2);
+    assert_eq!(rt; trail.looked(), 2);
     trail.back_to(0);
     assert_eq!(rt; trail.depth(), 0);
     assert_eq!(rt; trail.lits().len(), 1);
+    assert_eq!(rt; trail.looked(), 1);
     assert_eq!(rt; trail.value(literal(&rt, -2)), None);
     assert_eq!(rt; trail.value(literal(&rt, -1)), Some(false));
     Ok(())

@@ -1,4 +1,4 @@
-use Rattle.std.proofs.Common.{◌≡◌, ◌<◌, ◌≤◌, ℕ, length, take}
+use Rattle.std.proofs.Common.{◌≡◌, ◌<◌, ◌≤◌, ℕ, length, take, min}
 use Rattle.trail_core.specs.Trail.{entry_at}
 use Rattle.trail_core.proofs.trail.Trail.back_to.Given as goal
 
@@ -10,6 +10,7 @@ invariant-loop-self l = record {
   above : (k : ℕ) → length l.self.entries ≤ k → k < length l.fn.self.entries → l.level < (entry_at l.fn.self.entries k).level;
   depth : l.self.depth ≡ l.fn.self.depth;
   vars : l.self.vars ≡ l.fn.self.vars;
+  looked : min l.self.looked (length l.self.entries) ≡ min l.fn.self.looked (length l.self.entries);
 }
 
 abbrev pub decreases-loop-self : goal.decreases-loop-self
