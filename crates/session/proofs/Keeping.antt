@@ -125,7 +125,7 @@ round_stays old new cube vars round kept same on_cube = record {
   on_cube = on_cube;
   variables = record {
     are = round.variables.are ∙ ap (λ n. max n (greatest_of cube)) (sym same.greatest);
-    reserved = omega (arith, round.variables.reserved, same.vars);
+    low = omega (arith, round.variables.low, same.vars);
     few = round.variables.few;
     set = round.variables.set;
   };
@@ -157,23 +157,13 @@ pub search_moved : (s : Search) (cursor : Cursor) (cursors : Vec Cursor Global) 
     → IsSearching (record s { cursor = cursor; cursors = cursors })
 search_moved s cursor cursors kept same assigned = record {
   stock = kept.stock;
-  room = record {
-    over = kept.room.over;
-    reserved = kept.room.reserved;
-    store = kept.room.store;
-    scratch = kept.room.scratch;
-    units = kept.room.units;
-    tags = kept.room.tags;
-  };
-  counted = record {
-    greatest = kept.counted.greatest;
-    inputs = kept.counted.inputs;
-    learnt = kept.counted.learnt;
-  };
+  room = kept.room;
+  counted = kept.counted;
   trail = kept.trail;
   on = kept.on;
   named = kept.named;
   all_named = kept.all_named;
+  watched = kept.watched;
   levels = ap length same ∙ kept.levels;
   cursors = cursors_moved PassesAssigned s.trail s.cursor cursor s.cursors.items cursors.items same assigned kept.cursors;
 }
@@ -188,12 +178,7 @@ round_moved s cursor cube vars round passed assigned = record {
     decisions = round.on_cube.decisions;
     cursors = cursors_moved (PassesTrue cube) s.trail s.cursor cursor s.cursors.items s.cursors.items refl passed round.on_cube.cursors;
   };
-  variables = record {
-    are = round.variables.are;
-    reserved = round.variables.reserved;
-    few = round.variables.few;
-    set = round.variables.set;
-  };
+  variables = round.variables;
 }
 
 -- the cursor moves, and a decision may come

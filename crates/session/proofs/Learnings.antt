@@ -1,14 +1,14 @@
 -- A search that learns a clause.
 use Rattle.std.proofs.Common.{◌≡◌, ◌∙◌, ℕ, ◌+◌, ◌<◌, ◌≤◌, List, [], ◌∷◌, ◌++◌, length, map, take}
 use Rattle.std.proofs.Common.{Bool, true, false, Option, None, Some, refl, ap, sym, subst, inl, inr}
-use Rattle.std.proofs.Common.{arith, Vec, Global}
+use Rattle.std.proofs.Common.{arith, Vec, Global, min}
 use Rattle.std.specs.Prelude.{◌⊎◌, All, Contains, IsTrue, nat_le, cond}
 use Rattle.std.proofs.lemmas.Bool.{cases_lt, cases_eq, le-leb, leb-true}
 use Rattle.std.proofs.lemmas.List.{length_push, length-map, map_push, length-take-le, get_or_push}
 use Rattle.std.proofs.lemmas.List.{get_or_append_left}
 use Rattle.std.proofs.lemmas.List.Elements.{All-nil, All-cons, All-get_or, All-contains}
 use Rattle.std.proofs.lemmas.List.Elements.{Contains-append_left, Contains-append_right}
-use Rattle.sat_base.specs.Lit.{IsLitSet, IsTautology, is_ascending, variable, opposite}
+use Rattle.sat_base.specs.Lit.{IsLit, IsLitSet, IsTautology, is_ascending, variable, opposite}
 use Rattle.sat_base.specs.Lit.{greatest_of, greatest_of_all}
 use Rattle.sat_base.specs.declared.origins.Ref.{Ref}
 use Rattle.sat_base.specs.declared.origins.Ref.TheVariants.{Own}
@@ -21,7 +21,7 @@ use Rattle.trace_core.specs.declared.derivation.Step.{Step}
 use Rattle.clause_arena.specs.Arena.{ArenaClause, clause_at, no_clause, lits_of_each}
 use Rattle.trail_core.specs.Trail.{Entry, TrailView, IsTrail, entry_at, no_entry, lits_of, up_to}
 use Rattle.trail_core.specs.UnderTrail.{IsFalseLit, IsFalseClause, IsUnassigned, IsForced}
-use Rattle.trail_core.specs.UnderTrail.{IsOpenClause, HasOthersFalse}
+use Rattle.trail_core.specs.UnderTrail.{IsOpenClause, HasOthersFalse, lits_at}
 use Rattle.propagate.specs.Store.{StoreView, AreWithin, AreAllWithin}
 use Rattle.propagate.proofs.Whole.{length-lits_of_each, lits_at-each}
 use Rattle.analyze.specs.Table.{IsNameOf, KnowsArena, KnowsUnits, unit_of, tag_of_unit}
@@ -32,19 +32,23 @@ use Rattle.session.specs.Stock.{IsStocked}
 use Rattle.sat_base.proofs.InOrder.{in_order-itself}
 use Rattle.session.specs.OnTrail.{IsOnTrail}
 use Rattle.session.specs.Units.{IsNamed}
-use Rattle.session.specs.Searching.{IsSearching, packets_of, solver_of, table_of}
+use Rattle.session.specs.Searching.{IsSearching, IsRoomy, IsCounted, IsHeldStep, packets_of}
+use Rattle.session.specs.Searching.{solver_of, table_of}
 use Rattle.session.specs.declared.conflicts.Lesson.{Lesson}
 use Rattle.session.specs.Lessons.{IsLesson}
 use Rattle.session.specs.Solving.{IsProperOver, LearnsOne}
 use Rattle.session.proofs.Lists.{All-push, All-under}
 use Rattle.trace_core.proofs.Items.{item_at-last}
 use Rattle.session.proofs.UpTo.{below_greatest, greatest_within}
-use Rattle.session.proofs.Stocked.{stock_learnt, inputs_learnt}
+use Rattle.session.proofs.Stocked.{stock_learnt, inputs_beside}
 use Rattle.session.proofs.Fronts.{level_at, IsFront, Ascends, front_of, up_to_is, up_to_twice}
 use Rattle.session.proofs.Fronts.{entry_in}
 use Rattle.session.proofs.OnTrails.{back_on_trail, more_on_trail, forced_on_trail}
-use Rattle.session.proofs.Asserted.{IsOnce, open_below, forces, unassigned_above}
-use Rattle.session.proofs.Searches.{name_of_clause}
+use Rattle.session.proofs.Asserted.{IsOnce, open_below, forces, unassigned_above, false_at}
+use Rattle.session.proofs.Watching.{watched_as, watched_back, watched_taught}
+use Rattle.propagate.specs.Pairing.{IsReady}
+use Rattle.analyze.specs.Graph.{IsOfLevel}
+use Rattle.session.proofs.Searches.{name_of_clause, counted_beside}
 use Rattle.session.specs.declared.search.Cursor.{Cursor}
 use Rattle.session.specs.Cursors.{PassesAssigned, cursor_at}
 use Rattle.session.proofs.Cursor.{assigned_stays, cursors_more, cursors_back}
@@ -73,9 +77,11 @@ false_proper trail clause is all both =
 pub search_back : (s : Search) (trail : TrailView) (level : ℕ) (cursor : Cursor)
     (cursors : Vec Cursor Global) → IsSearching s → IsTrail trail → level < s.trail.depth
     → trail.entries ≡ up_to level s.trail.entries → trail.depth ≡ level → trail.vars ≡ s.trail.vars
+    → trail.looked ≡ min s.trail.looked (length trail.entries)
     → cursor ≡ cursor_at s.cursors.items level → cursors.items ≡ take level s.cursors.items
+    → (0 < level → s.store.fresh ≡ [])
     → IsSearching (record s { trail = trail; cursor = cursor; cursors = cursors })
-search_back s trail level cursor cursors kept is deep entries_are depth_is vars_are cursor_is cursors_are =
+search_back s trail level cursor cursors kept is deep entries_are depth_is vars_are looked_is cursor_is cursors_are none =
     let (n, front) = front_of s.trail.entries level kept.trail.ascending in
     let taken : trail.entries ≡ take n s.trail.entries = entries_are
     ∙ up_to_is s.trail.entries level n front in
@@ -88,20 +94,9 @@ search_back s trail level cursor cursors kept is deep entries_are depth_is vars_
     (λ (es : List Entry). entry_at es place) taken ∙ entry_in s.trail.entries n place lt in
     record {
       stock = kept.stock;
-      room = record {
-        over = kept.room.over;
-        reserved = omega
-            (arith, kept.room.reserved, vars_are);
-        store = omega (arith, kept.room.store, vars_are);
-        scratch = omega (arith, kept.room.scratch, vars_are);
-        units = omega (arith, kept.room.units, vars_are);
-        tags = omega (arith, kept.room.tags, vars_are);
-      };
-      counted = record {
-        greatest = kept.counted.greatest;
-        inputs = kept.counted.inputs;
-        learnt = kept.counted.learnt;
-      };
+      room = subst (λ vars. IsRoomy s.greatest vars s.store s.scratch s.units.items s.tags.items)
+      (sym vars_are) kept.room;
+      counted = kept.counted;
       on = subst (λ (es : List Entry). IsOnTrail (lits_of_each s.store.clauses) es trail.depth)
           (sym entries_are)
           (subst (IsOnTrail (lits_of_each s.store.clauses) (up_to level s.trail.entries))
@@ -117,6 +112,10 @@ search_back s trail level cursor cursors kept is deep entries_are depth_is vars_
             (kept.named.known place lt);
       };
       trail = is;
+      watched = watched_as refl refl entries_are depth_is
+          (looked_is ∙ ap (λ (es : List Entry). min s.trail.looked (length es)) entries_are)
+          (watched_back s.store.clauses s.store.fresh s.trail level kept.trail
+          (omega (arith, deep)) none kept.watched);
       levels = ap length cursors_are
           ∙ length-take-le level s.cursors.items (omega (arith, deep, kept.levels)) ∙ sym depth_is;
       cursors = cursors_back PassesAssigned s.trail trail level s.cursor cursor s.cursors.items cursors.items kept.trail.ascending deep entries_are depth_is cursor_is cursors_are kept.cursors;
@@ -169,10 +168,6 @@ pub is_held : (held held' : List Known) (one : Known) → held' ≡ held ++ one 
 is_held held held' one is = subst (λ (xs : List Known). Contains xs one) (sym is)
     (Contains-append_right held (one ∷ []) one (Contains-here one []))
 
--- the step's clause is one of these
-abbrev IsLearntIn : Search → List Known → ℕ → Type 0
-IsLearntIn s held number = (one : Known) × IsStep s.steps.items number one × Contains held one
-
 -- A learnt clause comes to be held, its step is listed, and its literal becomes true.
 pub search_taught : (s : Search) (store : StoreView) (trail : TrailView) (learnt : Vec ℕ Global)
     (step : Step) (number id lit : ℕ) → IsSearching s
@@ -180,20 +175,23 @@ pub search_taught : (s : Search) (store : StoreView) (trail : TrailView) (learnt
       lits = step.clause;
       tag = step.tag;
       origin = Own number;
-    } ∷ [] → store.vars ≡ s.store.vars → learnt.items ≡ s.learnt.items ++ number ∷ []
+    } ∷ [] → store.fresh ≡ s.store.fresh ++ length s.store.clauses ∷ []
+    → store.vars ≡ s.store.vars → learnt.items ≡ s.learnt.items ++ number ∷ []
     → trail.entries ≡ s.trail.entries ++ record {
       lit = lit;
       level = s.trail.depth;
       reason = Some id;
-    } ∷ [] → trail.depth ≡ s.trail.depth → trail.vars ≡ s.trail.vars → IsTrail trail
-    → id ≡ length s.store.clauses
+    } ∷ [] → trail.depth ≡ s.trail.depth → trail.vars ≡ s.trail.vars
+    → trail.looked ≡ s.trail.looked → IsTrail trail → id ≡ length s.store.clauses
     → IsStep s.steps.items number (known_of step) → IsLitSet step.clause
     → AreWithin s.greatest step.clause
     → ((level : ℕ) → level < s.trail.depth → IsOpenClause
     (lits_of (up_to level s.trail.entries)) step.clause)
     → HasOthersFalse (lits_of s.trail.entries) step.clause lit
+    → IsReady s.trail.entries s.trail.depth step.clause
+    → (0 < s.trail.depth → s.store.fresh ≡ [])
     → IsSearching (record s { store = store; trail = trail; learnt = learnt })
-search_taught s store trail learnt step number id lit kept added store_vars listed entries_are depth_is vars_are is_trail id_is is set within is_open others = record {
+search_taught s store trail learnt step number id lit kept added fresh_is store_vars listed entries_are depth_is vars_are looked_is is_trail id_is is set within is_open others ready none = record {
   stock = subst (λ clauses. IsStocked clauses (packets_of s) s.steps.items s.bound) (sym added)
       (stock_learnt s.store.clauses
       (packets_of s) s.steps.items s.bound step number kept.stock is set.each set.ascending);
@@ -201,33 +199,18 @@ search_taught s store trail learnt step number id lit kept added store_vars list
     over = subst (λ clauses. AreAllWithin s.greatest clauses) (sym added)
         (All-push (λ (clause : ArenaClause). AreWithin s.greatest clause.lits) s.store.clauses clause kept.room.over within);
     reserved = omega (arith, kept.room.reserved, vars_are);
-    store = omega (arith, kept.room.store, vars_are, store_vars);
-    scratch = omega (arith, kept.room.scratch, vars_are);
-    units = omega (arith, kept.room.units, vars_are);
-    tags = omega (arith, kept.room.tags, vars_are);
+    in_store = omega (arith, kept.room.in_store, vars_are, store_vars);
+    in_scratch = omega (arith, kept.room.in_scratch, vars_are);
+    in_units = omega (arith, kept.room.in_units, vars_are);
+    in_tags = omega (arith, kept.room.in_tags, vars_are);
   };
-  counted = record {
-    greatest = kept.counted.greatest ∙ ap (λ inputs. greatest_of_all (clauses_of inputs))
-        (sym inputs);
-    inputs = kept.counted.inputs ∙ ap length (sym inputs);
-    learnt = subst (λ (held : List Known). All (IsLearntIn s held) learnt.items) (sym held)
-        (subst (All (IsLearntIn s (held_of s.store.clauses ++ known_clause clause ∷ []))) (sym listed)
-        (All-push (IsLearntIn s (held_of s.store.clauses ++ known_clause clause ∷ [])) s.learnt.items number
-        (All-under (IsLearntIn s (held_of s.store.clauses))
-        (IsLearntIn s (held_of s.store.clauses ++ known_clause clause ∷ [])) s.learnt.items
-        (λ n (one, named, there). (
-          one,
-          named,
-          Contains-append_left (held_of s.store.clauses)
-              (known_clause clause ∷ []) one there,
-        )) kept.counted.learnt) (
-          known_of step,
-          is,
-          is_held (held_of s.store.clauses)
-              (held_of s.store.clauses ++ known_clause clause ∷ []) (known_of step)
-              (ap (λ one. held_of s.store.clauses ++ one ∷ []) (known_learnt step number set.ascending)),
-        )));
-  };
+  counted = subst (IsCounted store.clauses s.greatest s.inputs s.steps.items) (sym listed) (record {
+    greatest_is = counted.greatest_is;
+    inputs_are = counted.inputs_are;
+    learnt_held = All-push (IsHeldStep s.steps.items (held_of store.clauses)) s.learnt.items number counted.learnt_held
+        (known_of step, is, is_held (held_of s.store.clauses) (held_of store.clauses) (known_of step)
+        (held ∙ ap (λ one. held_of s.store.clauses ++ one ∷ []) (known_learnt step number set.ascending)));
+  });
   on = subst (λ (es : List Entry). IsOnTrail (lits_of_each store.clauses) es trail.depth)
       (sym entries_are)
       (subst (IsOnTrail (lits_of_each store.clauses) (s.trail.entries ++ entry ∷ []))
@@ -238,6 +221,8 @@ search_taught s store trail learnt step number id lit kept added store_vars list
       (sym inputs)
       (named_push (table_of s) s.trail.entries trail.entries s.units.items s.tags.items s.named entry entries_are kept.named);
   trail = is_trail;
+  watched = watched_as added fresh_is entries_are depth_is looked_is
+      (watched_taught s.store.clauses s.store.fresh s.trail.entries s.trail.depth s.trail.looked clause entry kept.trail.looked_at refl ready others.stands none kept.watched);
   levels = kept.levels ∙ sym depth_is;
   cursors = cursors_more PassesAssigned s.trail trail (entry ∷ []) s.cursor s.cursors.items assigned_stays entries_are depth_is kept.cursors;
   all_named = λ deep place lt zero. all_at deep place lt zero
@@ -251,10 +236,14 @@ search_taught s store trail learnt step number id lit kept added store_vars list
     entry = record { lit = lit; level = s.trail.depth; reason = Some id }
 
     inputs : inputs_of store.clauses ≡ inputs_of s.store.clauses
-    inputs = ap inputs_of added ∙ inputs_learnt s.store.clauses step.clause step.tag number
+    inputs = ap inputs_of added ∙ inputs_beside s.store.clauses clause refl
 
     held : held_of store.clauses ≡ held_of s.store.clauses ++ known_clause clause ∷ []
     held = ap held_of added ∙ map_push known_clause s.store.clauses clause
+
+    counted : IsCounted store.clauses s.greatest s.inputs s.steps.items s.learnt.items
+    counted = counted_beside s.store.clauses store.clauses s.greatest s.inputs s.steps.items s.learnt.items
+        (known_clause clause ∷ []) inputs held kept.counted
 
     on_added : IsOnTrail (lits_of_each store.clauses) s.trail.entries s.trail.depth
     on_added = subst (λ lits. IsOnTrail lits s.trail.entries s.trail.depth)
@@ -298,23 +287,12 @@ pub search_unlisted : (s : Search) (learnt : Vec ℕ Global) → IsSearching s
     → learnt.items ≡ s.learnt.items → IsSearching (record s { learnt = learnt })
 search_unlisted s learnt kept same = record {
   stock = kept.stock;
-  room = record {
-    over = kept.room.over;
-    reserved = kept.room.reserved;
-    store = kept.room.store;
-    scratch = kept.room.scratch;
-    units = kept.room.units;
-    tags = kept.room.tags;
-  };
-  counted = record {
-    greatest = kept.counted.greatest;
-    inputs = kept.counted.inputs;
-    learnt = subst (λ numbers. All (λ n. (x : Known) × IsStep s.steps.items n x
-        × Contains (held_of s.store.clauses) x) numbers) (sym same) kept.counted.learnt;
-  };
+  room = kept.room;
+  counted = subst (IsCounted s.store.clauses s.greatest s.inputs s.steps.items) (sym same) kept.counted;
   on = kept.on;
   named = kept.named;
   trail = kept.trail;
+  watched = kept.watched;
   levels = kept.levels;
   cursors = kept.cursors;
   all_named = kept.all_named;
@@ -466,6 +444,22 @@ lesson_forces s lesson trail lit is l entries_are has free =
     subst (λ (es : List Entry). HasOthersFalse (lits_of es) lesson.clause lit) (sym entries_are)
     (learnt_forces s.trail.entries s.trail.depth lesson.back lesson.clause lit is.ascending is.once l.asserting l.refuted has (subst (λ (es : List Entry). IsUnassigned (lits_of es) lit) entries_are free))
 
+-- it is ready to be watched
+pub lesson_ready : (s : Search) (lesson : Lesson) (trail : TrailView) → IsTrail s.trail
+    → IsLesson s lesson → trail.entries ≡ up_to lesson.back s.trail.entries
+    → trail.depth ≡ lesson.back → IsReady trail.entries trail.depth lesson.clause
+lesson_ready s lesson trail is l entries_are depth_is =
+    subst (λ (es : List Entry). IsReady es trail.depth lesson.clause) (sym entries_are)
+    (subst (λ n. IsReady (up_to lesson.back s.trail.entries) n lesson.clause) (sym depth_is)
+    (at l.asserting.reached))
+  where
+    at : (lesson.back ≡ 0) ⊎ ((other : ℕ) × Contains lesson.clause other
+        × IsOfLevel s.trail.entries other lesson.back)
+        → IsReady (up_to lesson.back s.trail.entries) lesson.back lesson.clause
+    at (inl none) = inr (inr none)
+    at (inr (other, stands, of)) = inr (inl (false_at s.trail.entries lesson.clause other lesson.back is.ascending is.once stands of
+        (All-contains (IsFalseLit (lits_of s.trail.entries)) lesson.clause other l.refuted.each stands)))
+
 -- one of its literals is unassigned
 pub lesson_free : (s : Search) (lesson : Lesson) (trail : TrailView) → IsTrail s.trail
     → IsLesson s lesson → trail.entries ≡ up_to lesson.back s.trail.entries
@@ -487,7 +481,8 @@ pub learnt_one : (old s : Search) (l : Lesson) (number : ℕ) → IsSearching ol
 learnt_one old s l number kept lesson set pushed last listed added bound packets = record {
   one = known_of l.step;
   learns = record {
-    inputs = ap inputs_of added ∙ inputs_learnt old.store.clauses l.clause l.step.tag number;
+    inputs = ap inputs_of added ∙ inputs_beside old.store.clauses
+        (record { lits = l.clause; tag = l.step.tag; origin = Own number }) refl;
     bound = bound;
     packets = packets;
     held = held_last old.store.clauses s.store.clauses l.step number
@@ -527,7 +522,7 @@ learnt_one old s l number kept lesson set pushed last listed added bound packets
         (λ lits. greatest_of lits ≤ old.greatest) (sym lesson.of)
         (greatest_within l.clause old.greatest (λ lit has. All-contains
         (λ x. variable x ≤ old.greatest) l.clause lit lesson.within has)) in
-        omega (arith, low, kept.counted.greatest)
+        omega (arith, low, kept.counted.greatest_is)
 
 -- the lesson is learnt, call after call
 pub lesson_learnt : (old p b h : Search) (l : Lesson) (number : ℕ) → IsSearching old

@@ -8,6 +8,7 @@ pub mod Forcing
 pub mod OnTrails
 pub mod Cursor
 pub mod OnCubes
+pub mod Watching
 pub mod Asserted
 pub mod UnitSteps
 pub mod Reasons

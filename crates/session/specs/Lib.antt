@@ -4,6 +4,7 @@ pub mod Stock
 pub mod OnTrail
 pub mod Cursors
 pub mod Cubes
+pub mod Watched
 pub mod Units
 pub mod Searching
 pub mod Moves

@@ -11,9 +11,9 @@ use Rattle.session.specs.Solver.{IsStep}
 use Rattle.session.specs.Searching.{IsSearching}
 
 -- the variables of the inputs and the cube are the first ones, and reserved
-pub record AreVariables (search : Search) (cube : List ℕ) (vars : ℕ) : Type 0 where
-  pub are : vars ≡ max search.greatest (greatest_of cube)
-  pub reserved : vars ≤ search.trail.vars
+pub record AreVariables (greatest reserved : ℕ) (cube : List ℕ) (vars : ℕ) : Type 0 where
+  pub are : vars ≡ max greatest (greatest_of cube)
+  pub low : vars ≤ reserved
   pub few : vars ≤ 8388607
   pub set : IsLitSet cube
 
@@ -21,7 +21,7 @@ pub record AreVariables (search : Search) (cube : List ℕ) (vars : ℕ) : Type 
 pub record IsInRound (search : Search) (cube : List ℕ) (vars : ℕ) : Type 0 where
   pub kept : IsSearching search
   pub on_cube : IsOnCube cube search
-  pub variables : AreVariables search cube vars
+  pub variables : AreVariables search.greatest search.trail.vars cube vars
 
 -- a clause that contains none of these
 abbrev pub ContainsNone : List Known → Known → Type 0

@@ -8,6 +8,7 @@ ghost use Rattle.clause_arena.specs.Arena.{lits_of_each};
 ghost use Rattle.trail_core.specs.Trail.{lits_of, up_to};
 ghost use Rattle.trail_core.specs.UnderTrail.{HasOthersFalse, IsOpenClause, IsUnassigned};
 ghost use Rattle.propagate.specs.Store.{AreWithin};
+ghost use Rattle.propagate.specs.Pairing.{IsReady};
 ghost use Rattle.session.specs.Solver.{IsStep};
 ghost use Rattle.session.specs.Searching.{IsSearching, HasSameVariables, IsConflict, solver_of};
 ghost use Rattle.session.specs.Cubes.{KeepsCubes};
@@ -94,6 +95,8 @@ fn hold(
         → IsOpenClause (lits_of (up_to level search.old.trail.entries)) clause.now }
     requires free { IsUnassigned (lits_of search.old.trail.entries) lit }
     requires forced { HasOthersFalse (lits_of search.old.trail.entries) clause.now lit }
+    requires ready { IsReady search.old.trail.entries search.old.trail.depth clause.now }
+    requires nothing_new { 0 < search.old.trail.depth → search.old.store.fresh ≡ [] }
     ensures kept { IsSearching search.new }
     ensures parts { search.new ≡ record search.old {
       store = search.new.store;

@@ -1,6 +1,6 @@
 //! Levels of the trail: a decision opens one, and a jump back takes those above a level away.
 
-ghost use Rattle.std.specs.Prelude.{◌≡◌, ℕ, ◌+◌, ◌<◌, ◌≤◌, List, length, OnOk};
+ghost use Rattle.std.specs.Prelude.{◌≡◌, ℕ, ◌+◌, ◌<◌, ◌≤◌, List, [], length, OnOk};
 ghost use Rattle.sat_base.specs.Lit.{IsLit, variable};
 ghost use Rattle.clause_arena.specs.Arena.{lits_of_each};
 ghost use Rattle.trail_core.specs.Trail.{lits_of, up_to};
@@ -8,6 +8,7 @@ ghost use Rattle.trail_core.specs.UnderTrail.{IsComplete, IsUnassigned};
 ghost use Rattle.session.specs.OnTrail.{IsChoice};
 ghost use Rattle.session.specs.Cubes.{IsOnCube, KeepsCubes};
 ghost use Rattle.session.specs.Searching.{IsSearching, AreAllNamed};
+ghost use Rattle.session.specs.Watched.{IsSettled};
 
 use crate::search::Search;
 use sat_base::Lit;
@@ -19,6 +20,7 @@ pub(crate) fn decide(search: &mut Search, lit: Lit) -> Result<(), AllocError>
     requires complete { IsComplete search.old.trail.entries search.old.trail.depth
         (lits_of_each search.old.store.clauses) }
     requires all_named { AreAllNamed search.old }
+    requires settled { IsSettled search.old.store search.old.trail }
     requires is { IsLit lit }
     requires within { variable lit ≤ search.old.trail.vars }
     requires free { IsUnassigned (lits_of search.old.trail.entries) lit }
@@ -46,6 +48,7 @@ pub(crate) fn decide(search: &mut Search, lit: Lit) -> Result<(), AllocError>
 pub(crate) fn backjump(search: &mut Search, level: u32)
     requires kept { IsSearching search.old }
     requires within { level < search.old.trail.depth }
+    requires nothing_new { 0 < level → search.old.store.fresh ≡ [] }
     ensures kept { IsSearching search.new }
     ensures parts { search.new ≡ record search.old {
       trail = search.new.trail;

@@ -7,6 +7,7 @@ ghost use Rattle.session.specs.Cubes.{KeepsCubes};
 ghost use Rattle.session.specs.Searching.{IsSearching, HasSameVariables, IsConflict, HasUnitsMore};
 ghost use Rattle.session.specs.Searching.{AreAllNamed, solver_of};
 ghost use Rattle.session.specs.Solving.{Learns};
+ghost use Rattle.session.specs.Watched.{IsSettled};
 
 use crate::naming::name_units;
 use crate::search::Search;
@@ -27,6 +28,8 @@ pub(crate) fn propagate_and_name(search: &mut Search) -> Result<Option<usize>, A
         (IsComplete search.new.trail.entries search.new.trail.depth
         (lits_of_each search.new.store.clauses))) }
     ensures all_named { IfOk result (λ found. IfNone found (AreAllNamed search.new)) }
+    ensures settled { IfOk result (λ found. IfNone found
+        (IsSettled search.new.store search.new.trail)) }
 {
     let found = propagate(&mut search.store, &mut search.trail);
     // Brings `IsTrail` of the trail with what was forced.

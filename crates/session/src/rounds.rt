@@ -17,6 +17,7 @@ ghost use Rattle.session.specs.Cubes.{KeepsCubes};
 ghost use Rattle.session.specs.Searching.{IsSearching, AreAllNamed, HasSameVariables, IsConflict};
 ghost use Rattle.session.specs.Searching.{solver_of};
 ghost use Rattle.session.specs.Rounds.{IsInRound};
+ghost use Rattle.session.specs.Watched.{IsSettled};
 ghost use Rattle.session.specs.Descents.{Descends};
 ghost use Rattle.session.specs.Solving.{Concludes, Keeps, Learns, LearnsOne, Solves};
 
@@ -159,6 +160,7 @@ fn decide_or_answer(
     requires complete { IsComplete search.old.trail.entries search.old.trail.depth
         (lits_of_each search.old.store.clauses) }
     requires all_named { AreAllNamed search.old }
+    requires settled { IsSettled search.old.store search.old.trail }
     ensures round { IsInRound search.new cube.now vars }
     ensures keeps { Keeps (solver_of search.old) (solver_of search.new) }
     ensures ends { IfOk result (λ end. IfSome end (Descends search.old search.new cube.now)) }

@@ -360,3 +360,30 @@ fn a_long_chain_and_many_free_variables_end_soon(rt: HostRuntime) -> Result<(), 
     }
     Ok(())
 }
+
+// The cube of the positive literals of so many variables.
+fn assumed(alloc: Global, rt: &impl Abort, count: u32) -> Result<Cube, AllocError>
+    requires { count ≤ 8388607 }
+{
+    let mut lits = Vec::new(alloc);
+    for var in 1..count + 1 {
+        lits.push(Lit::of(var as i32).expect(rt, "a literal"))?;
+    }
+    Cube::from_lits(alloc, &lits)
+}
+
+// To look through the cube from its first literal on at each decision would take minutes.
+#[test]
+fn a_cube_of_many_literals_is_walked_once(rt: HostRuntime) -> Result<(), Fail> {
+    let alloc = rt.alloc();
+    let given = assumed(alloc, &rt, 500_000)?;
+    let mut session = start(alloc, &rt, &[], &given)?;
+    match session.solve(&given, 1)? {
+        Round::Model(model) => {
+            assert!(rt; model.values().len() == 500_000);
+            assert!(rt; model.values().iter().all(|value| *value));
+        }
+        _ => panic!(rt; "no model"),
+    }
+    Ok(())
+}

@@ -21,9 +21,9 @@ returns-clause-kept c =
     let s = c.args.search.now in
     let r = c.requires in
     let step : Step = record { clause = c.args.clause.now; hints = []; tag = c.args.tag } in
-    search_taught s c.add.new.self c.assign.new.self c.push_reserved.new.self step c.args.number c.in_ok-id.id c.args.lit r.kept c.in_ok-id.ensures.ok c.in_ok-id.ensures.vars
+    search_taught s c.add.new.self c.assign.new.self c.push_reserved.new.self step c.args.number c.in_ok-id.id c.args.lit r.kept c.in_ok-id.ensures.ok c.in_ok-id.ensures.fresh c.in_ok-id.ensures.vars
     (c.push_reserved.ensures.items ∙ ap (λ (xs : List ℕ). xs ++ c.args.number ∷ []) c.reserve.ensures.items)
-    c.assign.ensures.entries c.assign.ensures.depth c.assign.ensures.vars c.depth.ensures.trail c.in_ok-id.ensures.number r.step r.set r.within r.open_below r.forced
+    c.assign.ensures.entries c.assign.ensures.depth c.assign.ensures.vars c.assign.ensures.looked c.depth.ensures.trail c.in_ok-id.ensures.number r.step r.set r.within r.open_below r.forced r.ready r.nothing_new
 
 pub returns-clause-cubes : goal.returns-clause-cubes
 returns-clause-cubes c =

@@ -1,13 +1,16 @@
-use Rattle.std.proofs.Common.{◌≡◌, ◌∙◌, ◌++◌, ◌∷◌, [], ap, sym, subst, arith}
+use Rattle.std.proofs.Common.{◌≡◌, ◌∙◌, ◌++◌, ◌∷◌, [], List, ℕ, ap, sym, subst, arith}
 use Rattle.sat_base.specs.declared.origins.Ref.TheVariants.{Own}
 use Rattle.trace_core.specs.Trace.{IsOkStep}
+use Rattle.clause_arena.specs.Arena.{ArenaClause}
 use Rattle.trail_core.specs.Trail.{TrailView, up_to}
 use Rattle.session.specs.declared.search.Search.{Search}
+use Rattle.session.specs.Cubes.{IsOnCube, KeepsCubes}
 use Rattle.session.specs.Searching.{solver_of, table_of}
 use Rattle.session.specs.Solving.{LearnsOne}
 use Rattle.session.proofs.Lists.{both_ok}
 use Rattle.session.proofs.OnCubes.{on_cube_stepped}
 use Rattle.session.proofs.Learnings.{lesson_open, lesson_forces, lesson_free, lesson_learnt}
+use Rattle.session.proofs.Learnings.{lesson_ready}
 use Rattle.session.proofs.conflicts.learn_and_backjump.Goals.{After-push_step, After-backjump}
 use Rattle.session.proofs.conflicts.learn_and_backjump.Goals as goal
 
@@ -33,12 +36,14 @@ back_is c = c.backjump.ensures.entries
 pub backjump-requires-clause-within : goal.backjump-requires-clause-within
 backjump-requires-clause-within c =
     let low = c.in_ok-clause.ensures.lesson.asserting.below in
-    omega (
-      arith,
-      low,
-      ap (λ (x : Search). x.trail.depth)
-          (stepped (goal.at.backjump-requires-clause-within c).After-push_step),
-    )
+    omega (arith, low, ap (λ (x : Search). x.trail.depth)
+    (stepped (goal.at.backjump-requires-clause-within c).After-push_step))
+
+pub backjump-requires-clause-nothing_new : goal.backjump-requires-clause-nothing_new
+backjump-requires-clause-nothing_new c = λ deep.
+    ap (λ (x : Search). x.store.fresh)
+    (stepped (goal.at.backjump-requires-clause-nothing_new c).After-push_step)
+    ∙ c.requires.conflict.settled c.requires.deep
 
 pub unreachable-requires : goal.unreachable-requires
 unreachable-requires c =
@@ -49,6 +54,17 @@ pub hold-requires-clause-open_below : goal.hold-requires-clause-open_below
 hold-requires-clause-open_below c =
     lesson_open c.args.search.now c.in_ok-clause.field-0 c.backjump.new.search.trail c.requires.kept.trail c.in_ok-clause.ensures.lesson
     (back_is (goal.at.hold-requires-clause-open_below c).After-backjump) c.backjump.ensures.depth
+
+pub hold-requires-clause-ready : goal.hold-requires-clause-ready
+hold-requires-clause-ready c =
+    lesson_ready c.args.search.now c.in_ok-clause.field-0 c.backjump.new.search.trail c.requires.kept.trail c.in_ok-clause.ensures.lesson
+    (back_is (goal.at.hold-requires-clause-ready c).After-backjump) c.backjump.ensures.depth
+
+pub hold-requires-clause-nothing_new : goal.hold-requires-clause-nothing_new
+hold-requires-clause-nothing_new c = λ deep.
+    ap (λ (x : Search). x.store.fresh) c.backjump.ensures.parts
+    ∙ ap (λ (x : Search). x.store.fresh) (stepped (goal.at.hold-requires-clause-nothing_new c).After-push_step)
+    ∙ c.requires.conflict.settled c.requires.deep
 
 pub hold-requires-clause-forced : goal.hold-requires-clause-forced
 hold-requires-clause-forced c =

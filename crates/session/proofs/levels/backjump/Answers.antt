@@ -12,8 +12,8 @@ cursor_read c = get_or_read c.args.search.now.cursors.items c.args.level c.index
 
 pub returns-clause-kept : goal.returns-clause-kept
 returns-clause-kept c =
-    search_back c.args.search.now c.back_to.new.self c.args.level _ c.truncate.new.self c.requires.kept c.depth.ensures.trail c.requires.within c.back_to.ensures.entries c.back_to.ensures.depth c.back_to.ensures.vars
-    (cursor_read c) c.truncate.ensures.items
+    search_back c.args.search.now c.back_to.new.self c.args.level _ c.truncate.new.self c.requires.kept c.depth.ensures.trail c.requires.within c.back_to.ensures.entries c.back_to.ensures.depth c.back_to.ensures.vars c.back_to.ensures.looked
+    (cursor_read c) c.truncate.ensures.items c.requires.nothing_new
 
 pub returns-clause-cubes : goal.returns-clause-cubes
 returns-clause-cubes c =

@@ -32,7 +32,8 @@ returns-clause-kept c =
     search_decided c.args.search.now c.assign.new.self c.push.new.self c.args.lit c.requires.kept c.depth.ensures.trail c.requires.complete c.requires.all_named
     (decided c)
     (c.assign.ensures.depth ∙ c.open_level.ensures.depth)
-    (c.assign.ensures.vars ∙ c.open_level.ensures.vars) c.in_ok-push.ensures.items
+    (c.assign.ensures.vars ∙ c.open_level.ensures.vars)
+    (c.assign.ensures.looked ∙ c.open_level.ensures.looked) c.in_ok-push.ensures.items c.requires.settled
 
 pub returns-clause-cube : goal.returns-clause-cube
 returns-clause-cube c = λ cube allowed on_cube.

@@ -28,7 +28,7 @@ run_round-requires c =
         variables = record {
           are = c.max-vars.ensures ∙ ap (λ n. max n c.greatest_variable.result) (sym e.numbers.0)
               ∙ ap (max mid.greatest) of_cube;
-          reserved = e.ok;
+          low = e.ok;
           few = omega (arith, c.max-vars.ensures, low, low_cube, of_cube);
           set = c.lits-lits.ensures.set;
         };
