@@ -2,13 +2,13 @@
 use Rattle.std.proofs.Common.{◌≡◌, ◌∙◌, ℕ, ◌+◌, ◌<◌, ◌≤◌, List, [], ◌∷◌, ◌++◌, length, map, take}
 use Rattle.std.proofs.Common.{Bool, true, false, Option, None, Some, refl, ap, sym, subst, inl, inr}
 use Rattle.std.proofs.Common.{arith, Vec, Global, min}
-use Rattle.std.specs.Prelude.{◌⊎◌, All, Contains, IsTrue, nat_le, cond}
+use Rattle.std.specs.Prelude.{◌⊎◌, Contains, IsTrue, nat_le, cond}
 use Rattle.std.proofs.lemmas.Bool.{cases_lt, cases_eq, le-leb, leb-true}
 use Rattle.std.proofs.lemmas.List.{length_push, length-map, map_push, length-take-le, get_or_push}
 use Rattle.std.proofs.lemmas.List.{get_or_append_left}
 use Rattle.std.proofs.lemmas.List.Elements.{All-nil, All-cons, All-get_or, All-contains}
-use Rattle.std.proofs.lemmas.List.Elements.{Contains-append_left, Contains-append_right}
-use Rattle.sat_base.specs.Lit.{IsLit, IsLitSet, IsTautology, is_ascending, variable, opposite}
+use Rattle.std.proofs.lemmas.List.Elements.{Contains-append_right}
+use Rattle.sat_base.specs.Lit.{IsLitSet, IsTautology, is_ascending, variable, opposite}
 use Rattle.sat_base.specs.Lit.{greatest_of, greatest_of_all}
 use Rattle.sat_base.specs.declared.origins.Ref.{Ref}
 use Rattle.sat_base.specs.declared.origins.Ref.TheVariants.{Own}
@@ -21,7 +21,7 @@ use Rattle.trace_core.specs.declared.derivation.Step.{Step}
 use Rattle.clause_arena.specs.Arena.{ArenaClause, clause_at, no_clause, lits_of_each}
 use Rattle.trail_core.specs.Trail.{Entry, TrailView, IsTrail, entry_at, no_entry, lits_of, up_to}
 use Rattle.trail_core.specs.UnderTrail.{IsFalseLit, IsFalseClause, IsUnassigned, IsForced}
-use Rattle.trail_core.specs.UnderTrail.{IsOpenClause, HasOthersFalse, lits_at}
+use Rattle.trail_core.specs.UnderTrail.{IsOpenClause, HasOthersFalse}
 use Rattle.propagate.specs.Store.{StoreView, AreWithin, AreAllWithin}
 use Rattle.propagate.proofs.Whole.{length-lits_of_each, lits_at-each}
 use Rattle.analyze.specs.Table.{IsNameOf, KnowsArena, KnowsUnits, unit_of, tag_of_unit}
@@ -37,7 +37,7 @@ use Rattle.session.specs.Searching.{solver_of, table_of}
 use Rattle.session.specs.declared.conflicts.Lesson.{Lesson}
 use Rattle.session.specs.Lessons.{IsLesson}
 use Rattle.session.specs.Solving.{IsProperOver, LearnsOne}
-use Rattle.session.proofs.Lists.{All-push, All-under}
+use Rattle.session.proofs.Lists.{All-push}
 use Rattle.trace_core.proofs.Items.{item_at-last}
 use Rattle.session.proofs.UpTo.{below_greatest, greatest_within}
 use Rattle.session.proofs.Stocked.{stock_learnt, inputs_beside}
@@ -95,7 +95,7 @@ search_back s trail level cursor cursors kept is deep entries_are depth_is vars_
     record {
       stock = kept.stock;
       room = subst (λ vars. IsRoomy s.greatest vars s.store s.scratch s.units.items s.tags.items)
-      (sym vars_are) kept.room;
+          (sym vars_are) kept.room;
       counted = kept.counted;
       on = subst (λ (es : List Entry). IsOnTrail (lits_of_each s.store.clauses) es trail.depth)
           (sym entries_are)
@@ -207,9 +207,12 @@ search_taught s store trail learnt step number id lit kept added fresh_is store_
   counted = subst (IsCounted store.clauses s.greatest s.inputs s.steps.items) (sym listed) (record {
     greatest_is = counted.greatest_is;
     inputs_are = counted.inputs_are;
-    learnt_held = All-push (IsHeldStep s.steps.items (held_of store.clauses)) s.learnt.items number counted.learnt_held
-        (known_of step, is, is_held (held_of s.store.clauses) (held_of store.clauses) (known_of step)
-        (held ∙ ap (λ one. held_of s.store.clauses ++ one ∷ []) (known_learnt step number set.ascending)));
+    learnt_held = All-push (IsHeldStep s.steps.items (held_of store.clauses)) s.learnt.items number counted.learnt_held (
+      known_of step,
+      is,
+      is_held (held_of s.store.clauses) (held_of store.clauses) (known_of step)
+          (held ∙ ap (λ one. held_of s.store.clauses ++ one ∷ []) (known_learnt step number set.ascending)),
+    );
   });
   on = subst (λ (es : List Entry). IsOnTrail (lits_of_each store.clauses) es trail.depth)
       (sym entries_are)

@@ -1,7 +1,7 @@
 -- Lists of items that all keep something, and the greatest of numbers.
 use Rattle.std.proofs.Common.{◌≡◌, ◌≢◌, ◌∙◌, ℕ, zero, suc, ◌<◌, ◌≤◌, List, [], ◌∷◌, ◌++◌, length}
 use Rattle.std.proofs.Common.{map, set, Some, refl, ap, sym, subst, inl, inr, arith, get_or}
-use Rattle.std.specs.Prelude.{◌⊎◌, All, Contains, max, Result, Ok, Err, OnOk, slice_get}
+use Rattle.std.specs.Prelude.{◌⊎◌, All, Contains, Result, Ok, Err, OnOk, slice_get}
 use Rattle.std.proofs.lemmas.List.{get_or_push, get_or_append_left, length_push}
 use Rattle.std.proofs.lemmas.Bool.{cases_lt}
 use Rattle.sat_base.proofs.Members.{Contains-here, Contains-there}

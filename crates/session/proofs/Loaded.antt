@@ -18,8 +18,7 @@ use Rattle.trace_core.specs.Known.{Known}
 use Rattle.clause_arena.specs.Arena.{ArenaClause, lits_of_each}
 use Rattle.propagate.specs.Store.{StoreView, AreAllWithin}
 use Rattle.session.specs.declared.search.Search.{Search}
-use Rattle.session.specs.Solver.{Solver, inputs_of, held_of, named_by, IsStep, known_clause}
-use Rattle.session.specs.Solver.{clauses_of}
+use Rattle.session.specs.Solver.{Solver, inputs_of, held_of, named_by, known_clause}
 use Rattle.session.specs.Stock.{IsStocked}
 use Rattle.session.specs.OnTrail.{IsOnTrail}
 use Rattle.session.specs.Units.{IsNamed}

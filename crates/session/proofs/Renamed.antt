@@ -1,5 +1,5 @@
 -- Own steps are named one after another.
-use Rattle.std.proofs.Common.{◌≡◌, ◌≢◌, ◌∙◌, ℕ, zero, suc, ◌+◌, ◌-◌, ◌<◌, ◌≤◌, List, [], ◌∷◌}
+use Rattle.std.proofs.Common.{◌≡◌, ◌≢◌, ◌∙◌, ℕ, ◌+◌, ◌-◌, ◌<◌, ◌≤◌, List}
 use Rattle.std.proofs.Common.{length, set, Option, None, Some, Bool, true, false, refl, ap, sym}
 use Rattle.std.proofs.Common.{subst, inl, inr, arith, get_or}
 use Rattle.std.specs.Prelude.{◌⊎◌, Contains, AllPairs, ◌==◌, cond, slice_get}

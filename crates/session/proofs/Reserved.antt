@@ -7,7 +7,7 @@ use Rattle.std.specs.Arc.{arc_value}
 use Rattle.std.proofs.lemmas.Option.{none-some}
 use Rattle.std.proofs.lemmas.List.{take_all, take_more, get_or-take, length-take, map_push}
 use Rattle.std.proofs.lemmas.List.{length_push, append-nil}
-use Rattle.std.proofs.lemmas.List.Elements.{Contains-append_left, filter-append}
+use Rattle.std.proofs.lemmas.List.Elements.{filter-append}
 use Rattle.sat_base.specs.Lit.{IsLitSet, variable, greatest_of, greatest_of_all}
 use Rattle.sat_base.specs.declared.origins.Ref.{Ref}
 use Rattle.sat_base.specs.declared.origins.Ref.TheVariants.{Input}
@@ -18,7 +18,7 @@ use Rattle.trail_core.specs.Trail.{Entry, TrailView, IsTrail, entry_at, no_entry
 use Rattle.propagate.specs.Store.{StoreView, AreWithin, AreAllWithin}
 use Rattle.analyze.specs.Table.{IsNameOf, unit_of, tag_of_unit}
 use Rattle.session.specs.declared.search.Search.{Search}
-use Rattle.session.specs.Solver.{inputs_of, held_of, packet_at, last_step_of, named_by, IsStep}
+use Rattle.session.specs.Solver.{inputs_of, held_of, packet_at, last_step_of, named_by}
 use Rattle.session.specs.Solver.{known_clause, clauses_of, is_input}
 use Rattle.session.specs.Stock.{IsStocked}
 use Rattle.session.specs.OnTrail.{AreAssigned, IsOnTrail}

@@ -1,7 +1,7 @@
 -- A search whose steps become more.
 use Rattle.std.proofs.Common.{◌≡◌, ◌∙◌, ℕ, ◌+◌, ◌-◌, get_or, set, List, [], ◌∷◌, ◌++◌, length, map}
 use Rattle.std.proofs.Common.{Option, Some, refl, ap, sym, subst, arith, Vec, Global}
-use Rattle.std.specs.Prelude.{◌<◌, ◌≤◌, None, Contains, All}
+use Rattle.std.specs.Prelude.{◌<◌, ◌≤◌, None, All}
 use Rattle.std.proofs.lemmas.Option.{none-some}
 use Rattle.std.proofs.lemmas.List.Elements.{All-get_or, All-append, Contains-append_left}
 use Rattle.clause_arena.specs.Arena.{ArenaClause, clause_at, no_clause}

@@ -7,14 +7,13 @@ use Rattle.std.proofs.lemmas.List.{append-nil, append_assoc}
 use Rattle.std.proofs.lemmas.List.Elements.{All-get_or, All-from_get_or, All-contains}
 use Rattle.sat_base.specs.Lit.{variable, greatest_of_all}
 use Rattle.sat_base.proofs.Members.{All-from_members}
-use Rattle.trace_core.specs.Known.{Known}
 use Rattle.clause_arena.specs.Arena.{ArenaClause, clause_at, no_clause, lits_of_each}
 use Rattle.trail_core.specs.Trail.{Entry, TrailView, IsTrail, entry_at}
 use Rattle.trail_core.specs.UnderTrail.{IsFounded, HasGrown}
 use Rattle.propagate.specs.Store.{StoreView, AreWithin, AreAllWithin, HasSameClauses}
 use Rattle.analyze.specs.Table.{IsNameOf, unit_of, tag_of_unit}
 use Rattle.session.specs.declared.search.Search.{Search}
-use Rattle.session.specs.Solver.{inputs_of, named_by, IsStep, clauses_of}
+use Rattle.session.specs.Solver.{inputs_of, named_by, clauses_of}
 use Rattle.session.specs.OnTrail.{IsOnTrail}
 use Rattle.session.specs.Units.{IsNamed}
 use Rattle.session.specs.Searching.{IsSearching, IsHeldStep, packets_of, AreAllNamed, table_of}

@@ -1,14 +1,13 @@
 -- A search that takes in a clause of the shared database.
 use Rattle.std.proofs.Common.{◌≡◌, ◌≢◌, ◌∙◌, ℕ, zero, suc, ◌+◌, ◌-◌, ◌<◌, ◌≤◌, List, [], ◌∷◌, ◌++◌}
-use Rattle.std.proofs.Common.{length, map, filter, set, Option, None, Some, Bool, true, false, refl}
+use Rattle.std.proofs.Common.{length, map, set, Option, None, Some, Bool, true, false, refl}
 use Rattle.std.proofs.Common.{ap, sym, subst, inl, inr, arith, get_or}
 use Rattle.std.specs.Prelude.{◌⊎◌, ◌==◌, All, Contains, cond, slice_get, option_map}
 use Rattle.std.specs.Prelude.{option_and_then, unwrap_or, replicate}
 use Rattle.std.proofs.lemmas.Bool.{cases_eq}
 use Rattle.std.proofs.lemmas.Bool.Decides.{nat_tests}
 use Rattle.std.proofs.lemmas.Option.{none-some, slice_get-get_or}
-use Rattle.std.proofs.lemmas.List.{map_push, append-nil}
-use Rattle.std.proofs.lemmas.List.Elements.{filter-append, Contains-append_left}
+use Rattle.std.proofs.lemmas.List.{map_push}
 use Rattle.std.proofs.lemmas.List.Elements.{Contains-append_right}
 use Rattle.sat_base.specs.Lit.{IsLit, IsLitSet, variable, greatest_of, greatest_of_all}
 use Rattle.sat_base.specs.Truth.{Entails}
@@ -24,7 +23,7 @@ use Rattle.clause_arena.specs.Arena.{ArenaClause, lits_of_each}
 use Rattle.propagate.specs.Store.{StoreView, AreWithin, AreAllWithin}
 use Rattle.session.specs.declared.search.Search.{Search}
 use Rattle.session.specs.Solver.{inputs_of, held_of, clauses_of, named_by, shared_by, known_in}
-use Rattle.session.specs.Solver.{packet_at, last_step_of, IsStep, known_clause, is_input}
+use Rattle.session.specs.Solver.{packet_at, last_step_of, known_clause}
 use Rattle.session.specs.Solver.{IsWithinItsTag}
 use Rattle.session.specs.Stock.{IsStocked}
 use Rattle.session.specs.OnTrail.{IsOnTrail}

@@ -1,5 +1,5 @@
 -- What a search keeps for propagation, call after call.
-use Rattle.std.proofs.Common.{◌≡◌, ◌∙◌, ℕ, ◌+◌, ◌<◌, ◌≤◌, List, [], ◌∷◌, ◌++◌, length, map, take, drop}
+use Rattle.std.proofs.Common.{◌≡◌, ◌∙◌, ℕ, ◌+◌, ◌<◌, ◌≤◌, List, [], ◌∷◌, ◌++◌, length, take, drop}
 use Rattle.std.proofs.Common.{min, filter, refl, ap, sym, subst, inl, inr, arith, get_or}
 use Rattle.std.specs.Prelude.{◌⊎◌, All, Contains, IsTrue, nat_lt}
 use Rattle.std.proofs.lemmas.Bool.{cases_eq}
@@ -8,7 +8,6 @@ use Rattle.std.proofs.lemmas.List.{map-append, length_push, length-take, get_or_
 use Rattle.std.proofs.lemmas.List.{take-append-drop}
 use Rattle.std.proofs.lemmas.List.Elements.{All-contains, Contains-append_left}
 use Rattle.std.proofs.lemmas.List.Elements.{Contains-append_right, Contains-append_cases}
-use Rattle.sat_base.specs.Lit.{opposite}
 use Rattle.sat_base.proofs.Members.{All-from_members, Contains-here, Contains-cases}
 use Rattle.trace_core.proofs.Items.{Contains-from_filter}
 use Rattle.clause_arena.specs.Arena.{ArenaClause, clause_at, no_clause}

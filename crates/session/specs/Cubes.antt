@@ -1,7 +1,5 @@
 -- What a search keeps for the cube that it is asked about.
-use Rattle.std.specs.Prelude.{◌≡◌, ℕ, ◌<◌, List, take, All, Contains, slice_index_or}
-use Rattle.trail_core.specs.Trail.{TrailView, lits_of, up_to}
-use Rattle.session.specs.declared.search.Cursor.{Cursor}
+use Rattle.std.specs.Prelude.{ℕ, List}
 use Rattle.session.specs.declared.search.Search.{Search}
 use Rattle.session.specs.OnTrail.{IsForCube}
 use Rattle.session.specs.Cursors.{AreCursors, PassesTrue}

@@ -1,5 +1,5 @@
 -- How far the search for a decision has come, at each level.
-use Rattle.std.specs.Prelude.{◌≡◌, ℕ, ◌<◌, List, length, take, All, Contains, slice_index_or}
+use Rattle.std.specs.Prelude.{ℕ, ◌<◌, List, take, All, Contains, slice_index_or}
 use Rattle.trail_core.specs.Trail.{TrailView, lits_of, up_to}
 use Rattle.session.specs.declared.search.Cursor.{Cursor}
 use Rattle.session.specs.OnTrail.{AreAssigned}

@@ -1,10 +1,8 @@
-use Rattle.std.proofs.Common.{◌≡◌, ◌∙◌, ◌++◌, ◌∷◌, [], List, ℕ, ap, sym, subst, arith}
+use Rattle.std.proofs.Common.{◌≡◌, ◌∙◌, ◌++◌, ◌∷◌, [], ap, sym, subst, arith}
 use Rattle.sat_base.specs.declared.origins.Ref.TheVariants.{Own}
 use Rattle.trace_core.specs.Trace.{IsOkStep}
-use Rattle.clause_arena.specs.Arena.{ArenaClause}
 use Rattle.trail_core.specs.Trail.{TrailView, up_to}
 use Rattle.session.specs.declared.search.Search.{Search}
-use Rattle.session.specs.Cubes.{IsOnCube, KeepsCubes}
 use Rattle.session.specs.Searching.{solver_of, table_of}
 use Rattle.session.specs.Solving.{LearnsOne}
 use Rattle.session.proofs.Lists.{both_ok}
@@ -36,8 +34,12 @@ back_is c = c.backjump.ensures.entries
 pub backjump-requires-clause-within : goal.backjump-requires-clause-within
 backjump-requires-clause-within c =
     let low = c.in_ok-clause.ensures.lesson.asserting.below in
-    omega (arith, low, ap (λ (x : Search). x.trail.depth)
-    (stepped (goal.at.backjump-requires-clause-within c).After-push_step))
+    omega (
+      arith,
+      low,
+      ap (λ (x : Search). x.trail.depth)
+          (stepped (goal.at.backjump-requires-clause-within c).After-push_step),
+    )
 
 pub backjump-requires-clause-nothing_new : goal.backjump-requires-clause-nothing_new
 backjump-requires-clause-nothing_new c = λ deep.

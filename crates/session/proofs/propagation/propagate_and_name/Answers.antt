@@ -1,4 +1,4 @@
-use Rattle.std.proofs.Common.{◌≡◌, ℕ, List, [], ap, sym, subst}
+use Rattle.std.proofs.Common.{◌≡◌, ℕ, List, [], sym, subst}
 use Rattle.clause_arena.specs.Arena.{lits_of_each}
 use Rattle.trail_core.specs.Trail.{TrailView}
 use Rattle.propagate.specs.Store.{StoreView, HasSameClauses}
