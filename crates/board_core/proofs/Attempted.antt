@@ -17,7 +17,9 @@ use Rattle.entry_core.specs.Schedule.{IsNext}
 use Rattle.entry_core.specs.Legal.{IsAllowed, IsWorker, IsLegal, IsRunning}
 use Rattle.board_core.specs.declared.board.Board.TheInside.{Inside}
 use Rattle.board_core.specs.declared.index.JobState.{JobState}
-use Rattle.board_core.specs.Index.{or_new, state_at, rank_of, room, IsIndexOf, IsOrderly}
+use Rattle.board_core.specs.Index.{or_new, state_at, rank_of, ranks_from, room, IsStateOf, IsIndexOf, IsOrderly}
+use Rattle.board_core.specs.declared.index.Models.{Models}
+use Rattle.board_core.specs.Overtaking.{IsModelsOf}
 use Rattle.board_core.specs.Kept.{AreFew, IsKept}
 use Rattle.entry_core.proofs.Inputs.{item_found}
 use Rattle.entry_core.proofs.LegalEntries.{legal_push}
@@ -26,7 +28,7 @@ use Rattle.board_core.proofs.Verdicts.{entry_by}
 use Rattle.board_core.proofs.Opened.{open_ended}
 use Rattle.board_core.proofs.Indexed.{orderly_on, orderly_begun, within}
 use Rattle.board_core.proofs.Changes.{same_segments}
-use Rattle.board_core.proofs.Ended.{IsEnd, Ends, index_begun, index_ended}
+use Rattle.board_core.proofs.Ended.{IsEnd, Ends, index_begun, states_ended, index_ended}
 use Rattle.board_core.proofs.Keeping.{base_of, few_on, few_packets, ranks_written}
 use Rattle.board_core.proofs.Looked.{item_place}
 
@@ -53,7 +55,6 @@ kept_begun a after states begun waiting caller job number kept worker next numbe
     let same = same_segments a.journal.items entry refl in
     record {
       limits = kept.limits;
-      all_answered = kept.all_answered;
       legal = subst (IsLegal a.rules) (sym more) (legal_push a.rules a.journal.items entry kept.legal (record { worker = worker; next_job = next; next_number = next_number }));
       few = subst AreFew (sym more) (record {
         jobs = subst (λ n. n ≤ 1048576) (ap length (sym same)) kept.few.jobs;
@@ -133,29 +134,26 @@ at_work a caller number begun kept running =
     left u o len size most false some same le = omega arith
 
 -- an attempt that ends
-pub kept_ended : (a : Inside) (after : Vec Entry Global) (caller : ℕ) (happened : Event) (number : ℕ) (begun : Attempt) (state : JobState) (states : Vec JobState Global) (waiting : List (Option Rank)) (tally total : ℕ)
+pub kept_ended_with : (a : Inside) (after : Vec Entry Global) (caller : ℕ) (happened : Event) (number : ℕ) (begun : Attempt) (states : Vec JobState Global) (waiting : List (Option Rank)) (tally total : ℕ) (models : Option Models)
     → IsKept a → IsEnd caller happened number → IsRunning a.journal.items caller number begun → IsAllowed a.rules a.journal.items caller happened
-    → Ends a.rules a.journal.items (entry_by caller happened) begun.job (state_at a.index.jobs.items begun.job) state
+    → ((other : ℕ) → IsStateOf a.rules (a.journal.items ++ entry_by caller happened ∷ []) other (state_at states.items other)) → length states.items ≡ length a.index.jobs.items
     → tally ≡ settled_jobs a.rules (a.journal.items ++ entry_by caller happened ∷ []) → a.index.settled ≤ tally → total + 1 ≡ a.index.open_now
     → after.items ≡ a.journal.items ++ entry_by caller happened ∷ [] → vec_capacity after ≡ vec_capacity a.journal
-    → states.items ≡ slice_set a.index.jobs.items (begun.job - 1) state → waiting ≡ slice_set a.index.waiting (begun.job - 1) (rank_of a.rules.attempts begun.job state)
-    → IsKept (record a { journal = after; index = record a.index { jobs = states; waiting = waiting; settled = tally; open_now = total } })
-kept_ended a after caller happened number begun state states waiting tally total kept end running allowed ends tallied no_less one_less more capacity written ranked =
+    → waiting ≡ ranks_from a.rules.attempts 1 states.items → IsModelsOf a.rules (a.journal.items ++ entry_by caller happened ∷ []) models
+    → IsKept (record a { journal = after; index = record a.index { jobs = states; waiting = waiting; settled = tally; open_now = total; models = models } })
+kept_ended_with a after caller happened number begun states waiting tally total models kept end running allowed stand count tallied no_less one_less more capacity ranked modelled =
     let entry : Entry = entry_by caller happened in
-    let work = at_work a caller number begun kept running in
     let longer : length after.items ≡ length a.journal.items + 1 = ap length more ∙ length_push a.journal.items entry in
-    let count : length states.items ≡ length a.index.jobs.items = ap length written ∙ length-set a.index.jobs.items (begun.job - 1) state in
     record {
       limits = kept.limits;
-      all_answered = kept.all_answered;
       legal = subst (IsLegal a.rules) (sym more) (legal_push a.rules a.journal.items entry kept.legal allowed);
       few = subst AreFew (sym more) (few_on a.journal.items entry kept.few end.adds end.begins (few_packets a.journal.items entry kept.few end.shares));
       orderly = subst IsOrderly (sym more) (orderly_on a.journal.items entry kept.orderly end.begins
           (λ n is. subst (λ k. k ≤ length (attempts a.journal.items)) (same_Some number n (sym end.ends ∙ is)) (within a.journal.items number begun running.found)));
-      index = subst (λ all. IsIndexOf a.rules all (record a.index { jobs = states; waiting = waiting; settled = tally; open_now = total })) (sym more)
-          (index_ended a.rules a.journal.items a.index caller happened number begun state states waiting tally total (base_of a kept) kept.index end running.found running.open_yet
-          work.job_from work.job_to ends tallied one_less written);
-      waiting = ranks_written a states waiting begun.job state kept work.job_from written ranked;
+      index = subst (λ all. IsIndexOf a.rules all (record a.index { jobs = states; waiting = waiting; settled = tally; open_now = total; models = models })) (sym more)
+          (index_ended a.rules a.journal.items a.index caller happened number begun states waiting tally total models (base_of a kept) kept.index end running.found running.open_yet
+          stand count tallied one_less modelled);
+      waiting = ranked;
       room = room_ended (length a.index.jobs.items) (length states.items) a.index.settled tally a.index.open_now total _ _ _ _ (is_some a.index.closed) count no_less one_less kept.room longer capacity;
     }
   where
@@ -163,3 +161,20 @@ kept_ended a after caller happened number begun state states waiting tally total
         → size' + ((n' - s') + o' + (if b then 0 else 1)) ≤ most'
     room_ended n n' s s' o o' size size' most most' true count le less spare longer same = omega arith
     room_ended n n' s s' o o' size size' most most' false count le less spare longer same = omega arith
+
+-- an attempt whose end changes its own job's state alone
+pub kept_ended : (a : Inside) (after : Vec Entry Global) (caller : ℕ) (happened : Event) (number : ℕ) (begun : Attempt) (state : JobState) (states : Vec JobState Global) (waiting : List (Option Rank)) (tally total : ℕ)
+    → IsKept a → IsEnd caller happened number → IsRunning a.journal.items caller number begun → IsAllowed a.rules a.journal.items caller happened
+    → Ends a.rules a.journal.items (entry_by caller happened) begun.job (state_at a.index.jobs.items begun.job) state
+    → tally ≡ settled_jobs a.rules (a.journal.items ++ entry_by caller happened ∷ []) → a.index.settled ≤ tally → total + 1 ≡ a.index.open_now
+    → IsModelsOf a.rules (a.journal.items ++ entry_by caller happened ∷ []) a.index.models
+    → after.items ≡ a.journal.items ++ entry_by caller happened ∷ [] → vec_capacity after ≡ vec_capacity a.journal
+    → states.items ≡ slice_set a.index.jobs.items (begun.job - 1) state → waiting ≡ slice_set a.index.waiting (begun.job - 1) (rank_of a.rules.attempts begun.job state)
+    → IsKept (record a { journal = after; index = record a.index { jobs = states; waiting = waiting; settled = tally; open_now = total } })
+kept_ended a after caller happened number begun state states waiting tally total kept end running allowed ends tallied no_less one_less modelled more capacity written ranked =
+    let work = at_work a caller number begun kept running in
+    let count : length states.items ≡ length a.index.jobs.items = ap length written ∙ length-set a.index.jobs.items (begun.job - 1) state in
+    kept_ended_with a after caller happened number begun states waiting tally total a.index.models kept end running allowed
+    (subst (λ items. (other : ℕ) → IsStateOf a.rules (a.journal.items ++ entry_by caller happened ∷ []) other (state_at items other)) (sym written)
+    (states_ended a.rules a.journal.items a.index caller happened number begun state (base_of a kept) kept.index end running.found running.open_yet work.job_from work.job_to ends))
+    count tallied no_less one_less more capacity (ranks_written a states waiting begun.job state kept work.job_from written ranked) modelled

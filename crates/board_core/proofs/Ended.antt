@@ -14,9 +14,12 @@ use Rattle.entry_core.specs.Attempts.{Attempt, begun_by, attempts, attempt, ende
 use Rattle.entry_core.specs.Settled.{settled, settled_jobs}
 use Rattle.board_core.specs.declared.index.JobState.{JobState}
 use Rattle.board_core.specs.declared.index.Index.{Index}
-use Rattle.board_core.specs.Index.{state_at, IsEndingOf, IsStateOf, IsIndexOf}
+use Rattle.board_core.specs.Index.{state_at, IsEndingOf, IsStateOf, IsOrderly, IsIndexOf}
 use Rattle.board_core.proofs.Readings.{read_on, or_none, place_unread, closing_unread}
-use Rattle.board_core.proofs.Verdicts.{entry_by}
+use Rattle.board_core.specs.declared.index.Models.{Models}
+use Rattle.board_core.specs.Overtaking.{IsModelsOf}
+use Rattle.board_core.proofs.Verdicts.{entry_by, begun_models}
+use Rattle.board_core.proofs.Models.{models_stay}
 use Rattle.board_core.proofs.Opened.{open_begun, open_ended}
 use Rattle.board_core.proofs.Indexed.{ending_stays, spent_begun}
 use Rattle.board_core.proofs.Changes.{IsBase, step, same_state, same_segments, same_packets, same_attempts, same_tally, states_set}
@@ -66,6 +69,7 @@ index_begun rules journal index caller job number states begun waiting base is f
       literals = is.literals ∙ ap (sum_by segment_literals) (sym (same_segments journal entry refl));
       settled = is.settled ∙ sym (same_tally rules journal entry refl stays);
       open_now = ap (λ n. n + 1) is.open_now ∙ sym (open_begun (λ n. true) journal entry new refl refl next base.orderly.ended);
+      models = models_stay rules journal longer index.models (begun_models journal entry new base.orderly refl refl) (let e = ap length (same_segments journal entry refl) in omega arith) is.models;
     }
 
 -- an event that ends the attempt of that number, and says nothing of jobs, packets and the closing
@@ -84,35 +88,62 @@ pub record Ends (rules : Rules) (journal : List Entry) (entry : Entry) (job : �
   pub others_spent : (other : ℕ) → other ≢ job → spent_attempts (journal ++ entry ∷ []) other ≡ spent_attempts journal other
   pub others_settled : (other : ℕ) → other ≢ job → settled rules (journal ++ entry ∷ []) other ≡ settled rules journal other
 
-pub index_ended : (rules : Rules) (journal : List Entry) (index : Index) (caller : ℕ) (happened : Event) (number : ℕ) (begun : Attempt) (after : JobState) (states : Vec JobState Global) (waiting : List (Option Rank)) (tally total : ℕ)
+-- open attempts after an end: those at other jobs, and those at its own
+pub other_opened : (journal : List Entry) (caller : ℕ) (happened : Event) (number : ℕ) (begun : Attempt) (other : ℕ) → IsOrderly journal → IsEnd caller happened number → attempt journal number ≡ Some begun → is_open journal begun ≡ true → other ≢ begun.job
+    → open_attempts (journal ++ entry_by caller happened ∷ []) other ≡ open_attempts journal other
+other_opened journal caller happened number begun other orderly end found opened differs =
+    let entry : Entry = entry_by caller happened in
+    let longer : List Entry = journal ++ entry ∷ [] in
+    (let e : open_attempts longer other ≡ open_attempts longer other + 0 = omega arith in e)
+    ∙ ap (λ b. open_attempts longer other + cond b 1 0) (sym (test_other begun.job other differs))
+    ∙ open_ended (λ n. n == other) journal entry number begun end.begins end.ends orderly.numbered found opened
+
+pub own_ended : (rules : Rules) (journal : List Entry) (index : Index) (caller : ℕ) (happened : Event) (number : ℕ) (begun : Attempt) (after : JobState)
     → IsBase rules journal → IsIndexOf rules journal index → IsEnd caller happened number → attempt journal number ≡ Some begun → is_open journal begun ≡ true
-    → 1 ≤ begun.job → begun.job ≤ jobs journal → Ends rules journal (entry_by caller happened) begun.job (state_at index.jobs.items begun.job) after
-    → tally ≡ settled_jobs rules (journal ++ entry_by caller happened ∷ []) → total + 1 ≡ index.open_now
-    → states.items ≡ slice_set index.jobs.items (begun.job - 1) after
-    → IsIndexOf rules (journal ++ entry_by caller happened ∷ []) (record index { jobs = states; waiting = waiting; settled = tally; open_now = total })
-index_ended rules journal index caller happened number begun after states waiting tally total base is end found opened from to ends tallied one_less written =
+    → after.open_now + 1 ≡ (state_at index.jobs.items begun.job).open_now → after.spent ≡ spent_attempts (journal ++ entry_by caller happened ∷ []) begun.job
+    → IsEndingOf (journal ++ entry_by caller happened ∷ []) after.ending (settled rules (journal ++ entry_by caller happened ∷ []) begun.job)
+    → IsStateOf rules (journal ++ entry_by caller happened ∷ []) begun.job after
+own_ended rules journal index caller happened number begun after base is end found opened one_less spends ends =
     let entry : Entry = entry_by caller happened in
     let longer : List Entry = journal ++ entry ∷ [] in
     let job : ℕ = begun.job in
-    let opens : (other : ℕ) → open_attempts longer other + cond (job == other) 1 0 ≡ open_attempts journal other = λ other.
-    open_ended (λ n. n == other) journal entry number begun end.begins end.ends base.orderly.numbered found opened in
-    let whole = open_ended (λ n. true) journal entry number begun end.begins end.ends base.orderly.numbered found opened in
     let was : IsStateOf rules journal job (state_at index.jobs.items job) = is.states job in
-    let own_open : open_attempts longer job + 1 ≡ open_attempts journal job = ap (λ b. open_attempts longer job + cond b 1 0) (sym (test_same job)) ∙ opens job in
-    let own : IsStateOf rules longer job after = record {
-      open_now = let a = ends.open_now in let b = was.open_now in omega arith;
-      spent = ends.spent;
-      ending = ends.ending;
-    } in
-    let there : job ≤ length index.jobs.items = let e = is.jobs in omega arith in
+    let own_open : open_attempts longer job + 1 ≡ open_attempts journal job =
+    ap (λ b. open_attempts longer job + cond b 1 0) (sym (test_same job))
+    ∙ open_ended (λ n. n == job) journal entry number begun end.begins end.ends base.orderly.numbered found opened in
     record {
-      jobs = ap length written ∙ length-set index.jobs.items (job - 1) after ∙ is.jobs ∙ ap length (sym (same_segments journal entry end.adds));
-      states = subst (λ items. (other : ℕ) → IsStateOf rules longer other (state_at items other)) (sym written)
-          (states_set rules longer index.jobs.items job after from there own
-          (λ other differs. same_state rules journal entry other (state_at index.jobs.items other) (is.states other)
-          ((let e : open_attempts longer other ≡ open_attempts longer other + 0 = omega arith in e)
-          ∙ ap (λ b. open_attempts longer other + cond b 1 0) (sym (test_other job other differs)) ∙ opens other)
-          (ends.others_spent other differs) (ends.others_settled other differs)));
+      open_now = let b = was.open_now in omega arith;
+      spent = spends;
+      ending = ends;
+    }
+
+-- the states after an end that changes only the state of its own job
+pub states_ended : (rules : Rules) (journal : List Entry) (index : Index) (caller : ℕ) (happened : Event) (number : ℕ) (begun : Attempt) (after : JobState)
+    → IsBase rules journal → IsIndexOf rules journal index → IsEnd caller happened number → attempt journal number ≡ Some begun → is_open journal begun ≡ true
+    → 1 ≤ begun.job → begun.job ≤ jobs journal → Ends rules journal (entry_by caller happened) begun.job (state_at index.jobs.items begun.job) after
+    → (other : ℕ) → IsStateOf rules (journal ++ entry_by caller happened ∷ []) other (state_at (slice_set index.jobs.items (begun.job - 1) after) other)
+states_ended rules journal index caller happened number begun after base is end found opened from to ends =
+    let entry : Entry = entry_by caller happened in
+    let longer : List Entry = journal ++ entry ∷ [] in
+    let job : ℕ = begun.job in
+    let there : job ≤ length index.jobs.items = let e = is.jobs in omega arith in
+    states_set rules longer index.jobs.items job after from there
+    (own_ended rules journal index caller happened number begun after base is end found opened ends.open_now ends.spent ends.ending)
+    (λ other differs. same_state rules journal entry other (state_at index.jobs.items other) (is.states other)
+    (other_opened journal caller happened number begun other base.orderly end found opened differs) (ends.others_spent other differs) (ends.others_settled other differs))
+
+pub index_ended : (rules : Rules) (journal : List Entry) (index : Index) (caller : ℕ) (happened : Event) (number : ℕ) (begun : Attempt) (states : Vec JobState Global) (waiting : List (Option Rank)) (tally total : ℕ) (models : Option Models)
+    → IsBase rules journal → IsIndexOf rules journal index → IsEnd caller happened number → attempt journal number ≡ Some begun → is_open journal begun ≡ true
+    → ((other : ℕ) → IsStateOf rules (journal ++ entry_by caller happened ∷ []) other (state_at states.items other)) → length states.items ≡ length index.jobs.items
+    → tally ≡ settled_jobs rules (journal ++ entry_by caller happened ∷ []) → total + 1 ≡ index.open_now
+    → IsModelsOf rules (journal ++ entry_by caller happened ∷ []) models
+    → IsIndexOf rules (journal ++ entry_by caller happened ∷ []) (record index { jobs = states; waiting = waiting; settled = tally; open_now = total; models = models })
+index_ended rules journal index caller happened number begun states waiting tally total models base is end found opened stand count tallied one_less modelled =
+    let entry : Entry = entry_by caller happened in
+    let whole = open_ended (λ n. true) journal entry number begun end.begins end.ends base.orderly.numbered found opened in
+    record {
+      jobs = count ∙ is.jobs ∙ ap length (sym (same_segments journal entry end.adds));
+      states = stand;
       segments = is.segments ∙ sym (same_segments journal entry end.adds);
       packets = is.packets ∙ sym (same_packets journal entry end.shares);
       begun = ap (map (λ (a : Attempt). a.job)) (same_attempts journal entry end.begins) ∙ is.begun;
@@ -122,6 +153,7 @@ index_ended rules journal index caller happened number begun after states waitin
       literals = is.literals ∙ ap (sum_by segment_literals) (sym (same_segments journal entry end.adds));
       settled = tallied;
       open_now = let e = is.open_now in counted (total + 1) _ total _ e one_less whole refl;
+      models = modelled;
     }
   where
     counted : (more before total after : ℕ) → index.open_now ≡ before → more ≡ index.open_now → after + 1 ≡ before → more ≡ total + 1 → total ≡ after

@@ -1,5 +1,5 @@
 -- What a board keeps after each kind of end of an attempt.
-use Rattle.std.proofs.Common.{◌≡◌, ◌∙◌, ◌≢◌, ◌⊎◌, inl, inr, ℕ, ◌+◌, ◌-◌, ◌≤◌, Bool, true, false, cond, Option, Some, None, List, [], ◌∷◌, ◌++◌, length, refl, ap, sym, subst, arith, ◌==◌, Vec, vec_len, vec_capacity}
+use Rattle.std.proofs.Common.{◌≡◌, ◌∙◌, ◌≢◌, ◌⊎◌, inl, inr, ℕ, ◌+◌, ◌-◌, ◌≤◌, Bool, true, false, cond, Option, Some, None, List, [], ◌∷◌, ◌++◌, length, refl, ap, sym, subst, arith, ◌==◌, ◌&&◌, Vec, vec_len, vec_capacity}
 use Rattle.std.specs.Prelude.{is_some, IsSome, option_and_then, if◌then◌else◌, nat_le, slice_get, slice_set}
 use Rattle.std.specs.Arc.{arc_value}
 use Rattle.std.specs.declared.sync.Arc.{Arc}
@@ -25,22 +25,27 @@ use Rattle.board_core.specs.declared.index.Ending.TheVariants as ending
 use Rattle.board_core.specs.declared.index.JobState.{JobState}
 use Rattle.board_core.specs.Index.{state_at, rank_of, answered_by, verdict_in, IsEndingOf}
 use Rattle.board_core.specs.Kept.{IsKept}
-use Rattle.board_core.proofs.Readings.{unsettled_free}
-use Rattle.board_core.proofs.Verdicts.{entry_by, verdict_by, nothing}
+use Rattle.std.specs.List.{cons_option}
+use Rattle.entry_core.specs.Settled.{Decision, is_model, job_of}
+use Rattle.entry_core.specs.Attempts.{attempts}
+use Rattle.trace_core.specs.Known.{item_at}
+use Rattle.board_core.proofs.Models.{models_pass, cancels_nobody}
+use Rattle.board_core.proofs.Readings.{unsettled_free, or_none}
+use Rattle.board_core.proofs.Verdicts.{entry_by, verdict_by, nothing, satisfied_by, one_more_model}
 use Rattle.board_core.proofs.Indexed.{spent_same, spent_more, ending_stays}
-use Rattle.board_core.proofs.Changes.{IsBase, step, same_or_other, same_tally, one_settled}
+use Rattle.board_core.proofs.Changes.{IsBase, step, same_or_other, same_tally, one_settled, models_same, same_segments}
 use Rattle.board_core.proofs.Ended.{IsEnd, Ends}
 use Rattle.board_core.proofs.Keeping.{base_of}
 use Rattle.board_core.proofs.Attempted.{at_work, kept_ended}
 
-at_own : (journal : List Entry) (number : ℕ) (begun : Attempt) → attempt journal number ≡ Some begun → is_attempt_at journal begun.job number ≡ true
+pub at_own : (journal : List Entry) (number : ℕ) (begun : Attempt) → attempt journal number ≡ Some begun → is_attempt_at journal begun.job number ≡ true
 at_own journal number begun found = let itself : (begun.job == begun.job) ≡ true = grind (arith, nat_tests) in ap (is_at begun.job) found ∙ itself
 
-at_other : (journal : List Entry) (number other : ℕ) (begun : Attempt) → attempt journal number ≡ Some begun → other ≢ begun.job → is_attempt_at journal other number ≡ false
+pub at_other : (journal : List Entry) (number other : ℕ) (begun : Attempt) → attempt journal number ≡ Some begun → other ≢ begun.job → is_attempt_at journal other number ≡ false
 at_other journal number other begun found differs = let apart : (begun.job == other) ≡ false = grind (arith, nat_tests) in ap (is_at other) found ∙ apart
 
 -- no verdict for another job
-stays_settled : (rules : Rules) (journal : List Entry) (caller : ℕ) (happened : Event) (other : ℕ) → IsBase rules journal → (settled rules journal other ≡ None → verdict_by rules journal other happened ≡ None)
+pub stays_settled : (rules : Rules) (journal : List Entry) (caller : ℕ) (happened : Event) (other : ℕ) → IsBase rules journal → (settled rules journal other ≡ None → verdict_by rules journal other happened ≡ None)
     → settled rules (journal ++ entry_by caller happened ∷ []) other ≡ settled rules journal other
 stays_settled rules journal caller happened other base only = step rules journal caller happened other base ∙ by_verdict (settled rules journal other) refl
   where
@@ -113,7 +118,7 @@ kept_spent a after states waiting caller number learnt begun kept running none s
     let others : (other : ℕ) → other ≢ begun.job → settled a.rules (journal ++ entry ∷ []) other ≡ settled a.rules journal other = λ other differs.
     stays_settled a.rules journal caller happened other base
     (λ is. ap (λ b. given_if (nat_le a.rules.attempts (spent_attempts journal other + cond b 1 0)) verdict.Spent) (at_other journal number other begun running.found differs)
-    ∙ nothing a.rules journal other (unsettled_free a.rules journal other base.some base.all_answered is)) in
+    ∙ nothing a.rules journal other (unsettled_free a.rules journal other base.some is)) in
     let tallied = tally_after a.rules journal entry begun.job state.ending refl work.job_from work.job_to unsettled ends_so others in
     let count = kept.index.settled in
     let most = work.total in
@@ -130,7 +135,7 @@ kept_spent a after states waiting caller number learnt begun kept running none s
       others_settled = others;
     })
     (ap (λ n. n + cond (is_some state.ending) 1 0) count ∙ sym tallied) (more_or_same a.index.settled (is_some state.ending)) (omega arith)
-    written.entry written.capacity written.state_is written.ranked
+    (models_same a.rules journal a.index entry refl refl refl kept.index) written.entry written.capacity written.state_is written.ranked
   where
     more_or_same : (n : ℕ) (b : Bool) → n ≤ n + cond b 1 0
     more_or_same n true = omega arith
@@ -144,7 +149,7 @@ settled_state how before = record { open_now = before.open_now - 1; spent = befo
 settling : (a : Inside) (caller : ℕ) (happened : Event) (number : ℕ) (begun : Attempt) (how : Ending) (given : Verdict) → IsKept a → IsEnd caller happened number → spent_by happened ≡ None
     → IsRunning a.journal.items caller number begun → settled a.rules a.journal.items begun.job ≡ None
     → verdict_in (a.journal.items ++ entry_by caller happened ∷ []) how ≡ Some given
-    → ((job : ℕ) → verdict_by a.rules a.journal.items job happened ≡ given_if (is_attempt_at a.journal.items job number) given)
+    → ((job : ℕ) → settled a.rules a.journal.items job ≡ None → verdict_by a.rules a.journal.items job happened ≡ given_if (is_attempt_at a.journal.items job number) given)
     → Ends a.rules a.journal.items (entry_by caller happened) begun.job (state_at a.index.jobs.items begun.job) (settled_state how (state_at a.index.jobs.items begun.job))
     × (a.index.settled + 1 ≡ settled_jobs a.rules (a.journal.items ++ entry_by caller happened ∷ []))
 settling a caller happened number begun how given kept end spends running unsettled named gives =
@@ -154,12 +159,12 @@ settling a caller happened number begun how given kept end spends running unsett
     let stands = kept.index.states begun.job in
     let work = at_work a caller number begun kept running in
     let settles : settled a.rules (journal ++ entry ∷ []) begun.job ≡ Some given =
-    step a.rules journal caller happened begun.job base ∙ ap (λ o. or_else o (verdict_by a.rules journal begun.job happened)) unsettled ∙ gives begun.job
+    step a.rules journal caller happened begun.job base ∙ ap (λ o. or_else o (verdict_by a.rules journal begun.job happened)) unsettled ∙ gives begun.job unsettled
     ∙ ap (λ b. given_if b given) (at_own journal number begun running.found) in
     let ends_so : IsEndingOf (journal ++ entry ∷ []) (Some how) (settled a.rules (journal ++ entry ∷ []) begun.job) =
     subst (λ g. IsSome g × (verdict_in (journal ++ entry ∷ []) how ≡ g)) (sym settles) (refl, named) in
     let others : (other : ℕ) → other ≢ begun.job → settled a.rules (journal ++ entry ∷ []) other ≡ settled a.rules journal other = λ other differs.
-    stays_settled a.rules journal caller happened other base (λ is. gives other ∙ ap (λ b. given_if b given) (at_other journal number other begun running.found differs)) in
+    stays_settled a.rules journal caller happened other base (λ is. gives other is ∙ ap (λ b. given_if b given) (at_other journal number other begun running.found differs)) in
     let opened = work.opened in (
       record {
         open_now = omega arith;
@@ -175,23 +180,34 @@ pub get_last : {X : Type 0} (xs : List X) (x : X) → slice_get (xs ++ x ∷ [])
 get_last [] x = refl
 get_last (y ∷ ys) x = get_last ys x
 
+-- an answer that isn't a model, under the rule
+nobody_more : (begun : List Attempt) (rule : Bool) (decision : Decision) → rule ≡ true → (rule && is_model (arc_value decision.given)) ≡ false → cons_option (satisfied_by begun decision) [] ≡ []
+nobody_more begun rule decision is nobody =
+    let none : is_model (arc_value decision.given) ≡ false = sym (ap (λ b. b && is_model (arc_value decision.given)) is) ∙ nobody in
+    ap (λ b. cons_option (cond b (job_of (item_at begun decision.number)) None) []) none
+
 pub kept_decided : (a : Inside) (after : Vec Entry Global) (states : Vec JobState Global) (waiting : List (Option Rank)) (caller number place : ℕ) (given : Arc Answer Global) (begun : Attempt) → IsKept a → IsRunning a.journal.items caller number begun
     → (state_at a.index.jobs.items begun.job).ending ≡ None → IsRightAnswer a.rules.traces a.journal.items begun.job (arc_value given) → place ≡ vec_len a.journal
+    → (a.rules.first && is_model (arc_value given)) ≡ false
     → IsWritten a after states waiting caller (event.Decided number given) begun.job (settled_state (ending.Answered place) (state_at a.index.jobs.items begun.job))
     → IsKept (record a { journal = after; index = record a.index { jobs = states; waiting = waiting; settled = a.index.settled + 1; open_now = a.index.open_now - 1 } })
-kept_decided a after states waiting caller number place given begun kept running none right here written =
+kept_decided a after states waiting caller number place given begun kept running none right here nobody written =
     let happened : Event = event.Decided number given in
     let entry : Entry = entry_by caller happened in
+    let decision : Decision = record { number = number; given = given } in
     let unsettled : settled a.rules a.journal.items begun.job ≡ None = unsettled_at a begun.job kept none in
     let work = at_work a caller number begun kept running in
     let most = work.total in
     let named : verdict_in (a.journal.items ++ entry ∷ []) (ending.Answered place) ≡ Some (verdict.Answered given) =
     ap (option_and_then (λ (e : Entry). answered_by e.event)) (ap (slice_get (a.journal.items ++ entry ∷ [])) (here ∙ a.journal.ok.0) ∙ get_last a.journal.items entry) in
     let end : IsEnd caller happened number = record { begins = refl; ends = refl; adds = refl; shares = refl; closes = refl } in
-    let parts = settling a caller happened number begun (ending.Answered place) (verdict.Answered given) kept end refl running unsettled named (λ job. refl) in
+    let parts = settling a caller happened number begun (ending.Answered place) (verdict.Answered given) kept end refl running unsettled named
+    (λ job is. ap (or_else (given_if (is_attempt_at a.journal.items job number) (verdict.Answered given)))
+    (cancels_nobody a.rules a.journal.items decision job nobody (unsettled_free a.rules a.journal.items job kept.limits.some_attempt is)) ∙ or_none (given_if (is_attempt_at a.journal.items job number) (verdict.Answered given))) in
     kept_ended a after caller happened number begun (settled_state (ending.Answered place) (state_at a.index.jobs.items begun.job)) states waiting (a.index.settled + 1) (a.index.open_now - 1) kept end running
     (record { begun = begun; running = running; unsettled = unsettled; right = right }) parts.0 parts.1 (omega arith) (omega arith)
-    written.entry written.capacity written.state_is written.ranked
+    (models_pass a.rules a.journal.items (a.journal.items ++ entry ∷ []) a.index.models (cons_option (satisfied_by (attempts a.journal.items) decision) []) (one_more_model a.journal.items entry decision refl refl)
+    (λ rule. nobody_more (attempts a.journal.items) a.rules.first decision rule nobody) (let e = ap length (same_segments a.journal.items entry refl) in omega arith) kept.index.models) written.entry written.capacity written.state_is written.ranked
 
 pub kept_starved : (a : Inside) (after : Vec Entry Global) (states : Vec JobState Global) (waiting : List (Option Rank)) (caller number : ℕ) (begun : Attempt) → IsKept a → IsRunning a.journal.items caller number begun
     → (state_at a.index.jobs.items begun.job).ending ≡ None
@@ -203,10 +219,10 @@ kept_starved a after states waiting caller number begun kept running none writte
     let work = at_work a caller number begun kept running in
     let most = work.total in
     let end : IsEnd caller happened number = record { begins = refl; ends = refl; adds = refl; shares = refl; closes = refl } in
-    let parts = settling a caller happened number begun ending.Starved verdict.Starved kept end refl running unsettled refl (λ job. refl) in
+    let parts = settling a caller happened number begun ending.Starved verdict.Starved kept end refl running unsettled refl (λ job is. refl) in
     kept_ended a after caller happened number begun (settled_state ending.Starved (state_at a.index.jobs.items begun.job)) states waiting (a.index.settled + 1) (a.index.open_now - 1) kept end running
     (record { begun = begun; running = running; unsettled = unsettled }) parts.0 parts.1 (omega arith) (omega arith)
-    written.entry written.capacity written.state_is written.ranked
+    (models_same a.rules a.journal.items a.index (entry_by caller happened) refl refl refl kept.index) written.entry written.capacity written.state_is written.ranked
 
 -- where the job of a dropped attempt stands
 abbrev pub dropped_state : JobState → JobState
@@ -238,4 +254,4 @@ kept_dropped a after states waiting caller number begun kept running is_settled 
       others_settled = λ other differs. stays other;
     })
     (kept.index.settled ∙ sym (same_tally a.rules journal entry refl stays)) (omega arith) (omega arith)
-    written.entry written.capacity written.state_is written.ranked
+    (models_same a.rules journal a.index entry refl refl refl kept.index) written.entry written.capacity written.state_is written.ranked

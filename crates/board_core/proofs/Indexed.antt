@@ -38,7 +38,7 @@ verdict_stays journal more (ending.Answered place) given some is = by_entry (sli
     by_entry None at h = absurd (none_is given some h)
     by_entry (Some entry) at h =
         ap (option_and_then (λ (e : Entry). answered_by e.event)) (get_in_front journal more place (slice_get_within journal place entry at) ∙ at) ∙ h
-verdict_stays journal more ending.Cancelled given some is = is
+verdict_stays journal more (ending.Cancelled by) given some is = is
 verdict_stays journal more ending.Spent given some is = is
 verdict_stays journal more ending.Starved given some is = is
 

@@ -17,19 +17,20 @@ use Rattle.entry_core.specs.Legal.{IsClient, IsWorker, IsLegal, IsShareable}
 use Rattle.board_core.specs.declared.board.Board.TheInside.{Inside}
 use Rattle.board_core.specs.declared.index.Ending.TheVariants as ending
 use Rattle.board_core.specs.declared.index.JobState.{JobState}
-use Rattle.board_core.specs.Index.{new_job, state_at, rank_of, ranks_from, IsIndexOf, IsOrderly, room, IsCountable}
+use Rattle.board_core.specs.Index.{state_at, rank_of, ranks_from, IsIndexOf, IsOrderly, room, IsCountable}
 use Rattle.board_core.specs.Kept.{state_of, AreFew, IsKept}
+use Rattle.board_core.specs.Overtaking.{next_ending}
 use Rattle.board_core.specs.Replies.{IsUnsettled, HasRoomFor}
 use Rattle.entry_core.proofs.LegalEntries.{legal_push}
 use Rattle.board_core.proofs.Readings.{read_on}
 use Rattle.board_core.proofs.Verdicts.{entry_by}
 use Rattle.board_core.proofs.Indexed.{orderly_on}
-use Rattle.board_core.proofs.Changes.{IsBase, same_segments, same_packets, same_attempts, index_closed, index_cancelled, index_grown, index_shared, index_added, jobs_push, inputs_push, literals_push}
+use Rattle.board_core.proofs.Changes.{IsBase, same_segments, same_packets, same_attempts, index_closed, index_cancelled, index_grown, index_shared, index_added, added_state, jobs_push, inputs_push, literals_push}
 use Rattle.board_core.proofs.Ranked.{ranks_push, ranks_set, ranks_length}
 use Rattle.board_core.proofs.Tallies.{tally_le, tally_lt}
 
 pub base_of : (a : Inside) → IsKept a → IsBase a.rules a.journal.items
-base_of a kept = record { some = kept.limits.some_attempt; all_answered = kept.all_answered; orderly = kept.orderly }
+base_of a kept = record { some = kept.limits.some_attempt; orderly = kept.orderly }
 
 -- no job and no attempt more
 pub few_on : (journal : List Entry) (entry : Entry) → AreFew journal → segment_of entry.event ≡ None → begun_by entry.caller entry.event ≡ None
@@ -70,7 +71,6 @@ kept_closed a after caller place kept client none more capacity here =
     let owed : is_some a.index.closed ≡ false = ap is_some none in
     record {
       limits = kept.limits;
-      all_answered = kept.all_answered;
       legal = subst (IsLegal a.rules) (sym more) (legal_push a.rules a.journal.items entry kept.legal (record { client = client; not_closed = not_closed }));
       few = subst AreFew (sym more) (few_on a.journal.items entry kept.few refl refl (few_packets a.journal.items entry kept.few refl));
       orderly = subst IsOrderly (sym more) (orderly_on a.journal.items entry kept.orderly refl (λ n is. absurd (cc)));
@@ -106,23 +106,22 @@ settled_few a kept =
 
 pub kept_cancelled : (a : Inside) (after : Vec Entry Global) (states : Vec JobState Global) (waiting : List (Option Rank)) (caller job : ℕ) → IsKept a → IsClient a.rules caller → IsUnsettled (state_of a) job
     → after.items ≡ a.journal.items ++ entry_by caller (event.Cancelled job) ∷ [] → vec_capacity after ≡ vec_capacity a.journal
-    → states.items ≡ slice_set a.index.jobs.items (job - 1) (record (state_at a.index.jobs.items job) { ending = Some ending.Cancelled })
-    → waiting ≡ slice_set a.index.waiting (job - 1) (rank_of a.rules.attempts job (record (state_at a.index.jobs.items job) { ending = Some ending.Cancelled }))
+    → states.items ≡ slice_set a.index.jobs.items (job - 1) (record (state_at a.index.jobs.items job) { ending = Some (ending.Cancelled 0) })
+    → waiting ≡ slice_set a.index.waiting (job - 1) (rank_of a.rules.attempts job (record (state_at a.index.jobs.items job) { ending = Some (ending.Cancelled 0) }))
     → IsKept (record a { journal = after; index = record a.index { jobs = states; waiting = waiting; settled = a.index.settled + 1 } })
 kept_cancelled a after states waiting caller job kept client unsettled more capacity written ranked =
     let entry : Entry = entry_by caller (event.Cancelled job) in
     let longer : length after.items ≡ length a.journal.items + 1 = ap length more ∙ length_push a.journal.items entry in
-    let size : length states.items ≡ length a.index.jobs.items = ap length written ∙ length-set a.index.jobs.items (job - 1) (record (state_at a.index.jobs.items job) { ending = Some ending.Cancelled }) in
+    let size : length states.items ≡ length a.index.jobs.items = ap length written ∙ length-set a.index.jobs.items (job - 1) (record (state_at a.index.jobs.items job) { ending = Some (ending.Cancelled 0) }) in
     record {
       limits = kept.limits;
-      all_answered = kept.all_answered;
       legal = subst (IsLegal a.rules) (sym more) (legal_push a.rules a.journal.items entry kept.legal
           (record { client = client; from_one = unsettled.there.from_one; added = unsettled.there.added; unsettled = unsettled.unsettled }));
       few = subst AreFew (sym more) (few_on a.journal.items entry kept.few refl refl (few_packets a.journal.items entry kept.few refl));
       orderly = subst IsOrderly (sym more) (orderly_on a.journal.items entry kept.orderly refl (λ n is. absurd (cc)));
       index = subst (λ all. IsIndexOf a.rules all (record a.index { jobs = states; waiting = waiting; settled = a.index.settled + 1 })) (sym more)
           (index_cancelled a.rules a.journal.items a.index caller job states waiting (base_of a kept) kept.index unsettled.there.from_one unsettled.there.added unsettled.unsettled written);
-      waiting = ranks_written a states waiting job (record (state_at a.index.jobs.items job) { ending = Some ending.Cancelled }) kept unsettled.there.from_one written ranked;
+      waiting = ranks_written a states waiting job (record (state_at a.index.jobs.items job) { ending = Some (ending.Cancelled 0) }) kept unsettled.there.from_one written ranked;
       room = room_settled (length a.index.jobs.items) (length states.items) a.index.settled a.index.open_now _ _ _ _ (is_some a.index.closed) (unsettled_lt a job kept unsettled) size kept.room longer capacity;
     }
   where
@@ -148,7 +147,6 @@ kept_grown a after states added packets begun waiting kept same grown same_state
     let count : length states.items ≡ length a.index.jobs.items = ap length same_states in
     record {
       limits = kept.limits;
-      all_answered = kept.all_answered;
       legal = subst (IsLegal a.rules) (sym same) kept.legal;
       few = subst AreFew (sym same) kept.few;
       orderly = subst IsOrderly (sym same) kept.orderly;
@@ -177,7 +175,6 @@ kept_shared a after packets caller packet copy kept worker shareable few more sp
     ap length (read_on (λ (e : Entry). packet_of e.event) a.journal.items entry (arc_value packet) refl) ∙ length_push (packets_of a.journal.items) (arc_value packet) in
     record {
       limits = kept.limits;
-      all_answered = kept.all_answered;
       legal = subst (IsLegal a.rules) (sym more) (legal_push a.rules a.journal.items entry kept.legal (record { worker = worker; few = omega arith; shareable = shareable }));
       few = subst AreFew (sym more) (few_on a.journal.items entry kept.few refl refl (omega arith));
       orderly = subst IsOrderly (sym more) (orderly_on a.journal.items entry kept.orderly refl (λ n is. absurd (cc)));
@@ -190,23 +187,26 @@ kept_shared a after packets caller packet copy kept worker shareable few more sp
     room_shared : (owed len size size' most : ℕ) → len + (owed + 1) ≤ most → len ≡ size → size' ≡ size + 1 → size' + owed ≤ most
     room_shared owed len size size' most spare same longer = omega arith
 
-pub kept_added : (a : Inside) (after : Vec Entry Global) (states : Vec JobState Global) (added : Vec (Arc Segment Global) Global) (waiting : List (Option Rank)) (caller : ℕ) (segment copy : Arc Segment Global) (clauses occurrences : ℕ)
+pub kept_added : (a : Inside) (after : Vec Entry Global) (states : Vec JobState Global) (added : Vec (Arc Segment Global) Global) (waiting : List (Option Rank)) (caller : ℕ) (segment copy : Arc Segment Global) (clauses occurrences tally : ℕ)
     → IsKept a → IsClient a.rules caller → HasRoomFor (state_of a) (arc_value segment)
     → after.items ≡ a.journal.items ++ entry_by caller (event.Added segment) ∷ [] → vec_len a.journal + (room a.index + 2) ≤ vec_capacity after
-    → states.items ≡ a.index.jobs.items ++ new_job ∷ [] → added.items ≡ a.index.segments.items ++ copy ∷ [] → arc_value copy ≡ arc_value segment
+    → states.items ≡ a.index.jobs.items ++ added_state a.index ∷ [] → added.items ≡ a.index.segments.items ++ copy ∷ [] → arc_value copy ≡ arc_value segment
     → clauses ≡ length (arc_value segment).clauses → occurrences ≡ segment_literals (arc_value segment)
-    → waiting ≡ a.index.waiting ++ rank_of a.rules.attempts (length a.index.jobs.items + 1) new_job ∷ []
-    → IsKept (record a { journal = after; index = record a.index { jobs = states; segments = added; waiting = waiting; clauses = a.index.clauses + clauses; literals = a.index.literals + occurrences } })
-kept_added a after states added waiting caller segment copy clauses occurrences kept client fits more spare more_states more_added same same_clauses same_literals ranked =
+    → waiting ≡ a.index.waiting ++ rank_of a.rules.attempts (length a.index.jobs.items + 1) (added_state a.index) ∷ []
+    → tally ≡ (if is_some (next_ending a.index.models) then 1 else 0)
+    → IsKept (record a {
+      journal = after;
+      index = record a.index { jobs = states; segments = added; waiting = waiting; clauses = a.index.clauses + clauses; literals = a.index.literals + occurrences; settled = a.index.settled + tally };
+    })
+kept_added a after states added waiting caller segment copy clauses occurrences tally kept client fits more spare more_states more_added same same_clauses same_literals ranked tallied =
     let entry : Entry = entry_by caller (event.Added segment) in
     let longer : length after.items ≡ length a.journal.items + 1 = ap length more ∙ length_push a.journal.items entry in
-    let count : length states.items ≡ length a.index.jobs.items + 1 = ap length more_states ∙ length_push a.index.jobs.items new_job in
+    let count : length states.items ≡ length a.index.jobs.items + 1 = ap length more_states ∙ length_push a.index.jobs.items (added_state a.index) in
     let seen : segments (a.journal.items ++ entry ∷ []) ≡ segments a.journal.items ++ arc_value segment ∷ [] = read_on (λ (e : Entry). segment_of e.event) a.journal.items entry (arc_value segment) refl in
     let not_closed : is_closed a.journal.items ≡ false = sym kept.index.closed ∙ ap is_some (kept.index.place ∙ fits.clauses.job.open_yet) in
     let counts = countable a kept in
     record {
       limits = kept.limits;
-      all_answered = kept.all_answered;
       legal = subst (IsLegal a.rules) (sym more) (legal_push a.rules a.journal.items entry kept.legal
           (record { client = client; not_closed = not_closed; few_jobs = fits.clauses.job.few_jobs; few_clauses = fits.clauses.few_clauses; few_literals = fits.few_literals }));
       few = subst AreFew (sym more) (record {
@@ -217,16 +217,16 @@ kept_added a after states added waiting caller segment copy clauses occurrences 
         attempts = subst (λ n. n ≤ 4294967295) (ap length (sym (same_attempts a.journal.items entry refl))) kept.few.attempts;
       });
       orderly = subst IsOrderly (sym more) (orderly_on a.journal.items entry kept.orderly refl (λ n is. absurd (cc)));
-      index = subst (λ all. IsIndexOf a.rules all (record a.index { jobs = states; segments = added; waiting = waiting; clauses = a.index.clauses + clauses; literals = a.index.literals + occurrences })) (sym more)
-          (index_added a.rules a.journal.items a.index caller segment copy states added waiting clauses occurrences (base_of a kept) kept.index more_states more_added same same_clauses same_literals);
-      waiting = ranked ∙ ap (λ all. all ++ rank_of a.rules.attempts (length a.index.jobs.items + 1) new_job ∷ []) kept.waiting
-          ∙ ap (λ n. ranks_from a.rules.attempts 1 a.index.jobs.items ++ rank_of a.rules.attempts n new_job ∷ []) (let e : length a.index.jobs.items + 1 ≡ 1 + length a.index.jobs.items = omega arith in e)
-          ∙ sym (ranks_push a.rules.attempts 1 a.index.jobs.items new_job) ∙ ap (ranks_from a.rules.attempts 1) (sym more_states);
+      index = subst (λ all. IsIndexOf a.rules all (record a.index { jobs = states; segments = added; waiting = waiting; clauses = a.index.clauses + clauses; literals = a.index.literals + occurrences; settled = a.index.settled + tally })) (sym more)
+          (index_added a.rules a.journal.items a.index caller segment copy states added waiting clauses occurrences tally (base_of a kept) kept.index more_states more_added same same_clauses same_literals tallied);
+      waiting = ranked ∙ ap (λ all. all ++ rank_of a.rules.attempts (length a.index.jobs.items + 1) (added_state a.index) ∷ []) kept.waiting
+          ∙ ap (λ n. ranks_from a.rules.attempts 1 a.index.jobs.items ++ rank_of a.rules.attempts n (added_state a.index) ∷ []) (let e : length a.index.jobs.items + 1 ≡ 1 + length a.index.jobs.items = omega arith in e)
+          ∙ sym (ranks_push a.rules.attempts 1 a.index.jobs.items (added_state a.index)) ∙ ap (ranks_from a.rules.attempts 1) (sym more_states);
       room = let size = a.journal.ok.0 in
-          room_added (length a.index.jobs.items) (length states.items) a.index.settled a.index.open_now _ _ _ _ (is_some a.index.closed) counts.settled count spare size longer;
+          room_added (length a.index.jobs.items) (length states.items) a.index.settled tally a.index.open_now _ _ _ _ (is_some a.index.closed) counts.settled count spare size longer;
     }
   where
-    room_added : (n n' s o len size size' most : ℕ) (b : Bool) → s ≤ n → n' ≡ n + 1 → len + (((n - s) + o + (if b then 0 else 1)) + 2) ≤ most → len ≡ size → size' ≡ size + 1
-        → size' + ((n' - s) + o + (if b then 0 else 1)) ≤ most
-    room_added n n' s o len size size' most true le count spare same longer = omega arith
-    room_added n n' s o len size size' most false le count spare same longer = omega arith
+    room_added : (n n' s more o len size size' most : ℕ) (b : Bool) → s ≤ n → n' ≡ n + 1 → len + (((n - s) + o + (if b then 0 else 1)) + 2) ≤ most → len ≡ size → size' ≡ size + 1
+        → size' + ((n' - (s + more)) + o + (if b then 0 else 1)) ≤ most
+    room_added n n' s more o len size size' most true le count spare same longer = omega arith
+    room_added n n' s more o len size size' most false le count spare same longer = omega arith

@@ -6,6 +6,7 @@ pub mod Verdicts
 pub mod Opened
 pub mod Tallies
 pub mod Indexed
+pub mod Models
 pub mod Changes
 pub mod Keeping
 pub mod Looked
@@ -13,7 +14,9 @@ pub mod Ranked
 pub mod Firsts
 pub mod Ended
 pub mod Attempted
+pub mod Overtaken
 pub mod Endings
+pub mod Cancelling
 pub mod Ready
 pub mod Takes
 pub mod WorkedJob

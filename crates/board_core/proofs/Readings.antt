@@ -1,5 +1,5 @@
 -- Readings of a journal after one more entry.
-use Rattle.std.proofs.Common.{◌≡◌, ◌∙◌, ℕ, suc, ◌+◌, ◌≤◌, Bool, true, false, cond, not, Option, Some, None, List, [], ◌∷◌, ◌++◌, length, refl, ap, sym, arith, append_assoc, length-append, nat_lt, ◌==◌, eqb, ◌||◌}
+use Rattle.std.proofs.Common.{◌≡◌, ◌∙◌, ℕ, suc, ◌+◌, ◌≤◌, Bool, true, false, cond, not, Option, Some, None, List, [], ◌∷◌, ◌++◌, length, refl, ap, sym, arith, append_assoc, length-append, nat_lt, ◌==◌, eqb, ◌||◌, ◌&&◌}
 use Rattle.std.specs.Prelude.{filter_map, find, position, nat_le, option_map}
 use Rattle.std.specs.List.{list_any, cons_option, position_or_len}
 use Rattle.std.proofs.lemmas.Bool.Decides.{nat_tests}
@@ -53,6 +53,12 @@ pub record IsFree (rules : Rules) (journal : List Entry) (job : ℕ) : Type 0 wh
   pub uncancelled : list_any (λ number. number == job) (cancelled journal) ≡ false
   pub unspent : nat_le rules.attempts (spent_attempts journal job) ≡ false
   pub unstarved : list_any (is_attempt_at journal job) (starved journal) ≡ false
+  pub not_overtaken : overtaken rules journal job ≡ None
+
+-- under the rule, the first model of a smaller job cancels each of so many jobs
+abbrev pub over_of : Bool → ℕ → List ℕ → ℕ → Option Verdict
+over_of rule count models job =
+    cond (rule && nat_le job count) (option_map (λ (earlier : ℕ). verdict.Cancelled earlier) (find (λ earlier. nat_lt earlier job) models)) None
 
 -- the first case that stands
 abbrev pub first_case : Option Decision → Bool → Bool → Bool → Option Verdict → Option Verdict
@@ -61,12 +67,12 @@ first_case answer cancel spent starve over =
     (or_else (given_if cancel (verdict.Cancelled 0)) (or_else (given_if spent verdict.Spent) (or_else (given_if starve verdict.Starved) over)))
 
 no_case : (answer : Option Decision) (cancel spent starve : Bool) (over : Option Verdict) → first_case answer cancel spent starve over ≡ None
-    → (answer ≡ None) × ((cancel ≡ false) × ((spent ≡ false) × (starve ≡ false)))
+    → (answer ≡ None) × ((cancel ≡ false) × ((spent ≡ false) × ((starve ≡ false) × (over ≡ None))))
 no_case (Some given) cancel spent starve over is = absurd (cc)
 no_case None true spent starve over is = absurd (cc)
 no_case None false true starve over is = absurd (cc)
 no_case None false false true over is = absurd (cc)
-no_case None false false false over is = (refl, (refl, (refl, refl)))
+no_case None false false false over is = (refl, (refl, (refl, (refl, is))))
 
 both_none : (a b : Option Verdict) → or_else a b ≡ None → (a ≡ None) × (b ≡ None)
 both_none None b is = (refl, is)
@@ -78,19 +84,20 @@ stands_not rules before (entry ∷ rest) job none is =
     let parts = both_none (standing rules (before ++ entry ∷ []) job) (settled_after rules (before ++ entry ∷ []) rest job) is in
     ap (λ (all : List Entry). standing rules all job) (sym (append_assoc before (entry ∷ []) rest)) ∙ stands_not rules (before ++ entry ∷ []) rest job parts.0 parts.1
 
-pub not_overtaken : (rules : Rules) (journal : List Entry) (job : ℕ) → rules.first ≡ false → overtaken rules journal job ≡ None
-not_overtaken rules journal job all_answered = rw all_answered
+never : (test : Bool) → cond test (option_map (λ (earlier : ℕ). verdict.Cancelled earlier) None) None ≡ None
+never true = refl
+never false = refl
 
 -- of a job that isn't settled, none of the cases stands
-pub unsettled_free : (rules : Rules) (journal : List Entry) (job : ℕ) → 1 ≤ rules.attempts → rules.first ≡ false → settled rules journal job ≡ None → IsFree rules journal job
-unsettled_free rules journal job some all_answered is =
+pub unsettled_free : (rules : Rules) (journal : List Entry) (job : ℕ) → 1 ≤ rules.attempts → settled rules journal job ≡ None → IsFree rules journal job
+unsettled_free rules journal job some is =
     let few : nat_le rules.attempts 0 ≡ false = grind (arith, nat_tests) in
     let nothing : first_case None false (nat_le rules.attempts 0) false (overtaken rules [] job) ≡ None =
-    ap (λ b. first_case None false b false (overtaken rules [] job)) few ∙ not_overtaken rules [] job all_answered in
+    ap (λ b. first_case None false b false (overtaken rules [] job)) few ∙ never (rules.first && nat_le job 0) in
     let parts = no_case (find (λ decision. is_attempt_at journal job decision.number) (decisions journal)) (list_any (λ number. number == job) (cancelled journal))
     (nat_le rules.attempts (spent_attempts journal job)) (list_any (is_attempt_at journal job) (starved journal)) (overtaken rules journal job)
     (stands_not rules [] journal job nothing is) in
-    record { unanswered = parts.0; uncancelled = parts.1.0; unspent = parts.1.1.0; unstarved = parts.1.1.1 }
+    record { unanswered = parts.0; uncancelled = parts.1.0; unspent = parts.1.1.0; unstarved = parts.1.1.1.0; not_overtaken = parts.1.1.1.1 }
 
 -- where the first place is after one more item
 first_place_yes : (place size place' size' : ℕ) → place ≤ size → size' ≡ size + 1 → place' ≡ cond (eqb place size) (size + 0) place

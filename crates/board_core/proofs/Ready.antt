@@ -190,7 +190,7 @@ pub spent_few : {a : Inside} {board : State} {caller number : ℕ} {own : Attemp
 spent_few {a} {board} {caller} {number} {own} r none =
     let unsettled = unsettled_at a r.begun.job r.kept (none_yet r none) in
     let free = unsettled_free a.rules a.journal.items r.begun.job r.kept.limits.some_attempt
-    r.kept.all_answered unsettled in
+    unsettled in
     few_spent own.state.spent (spent_attempts a.journal.items r.begun.job) a.rules.attempts
     (ap (λ (s : JobState). s.spent) r.state_is ∙ (r.kept.index.states r.begun.job).spent)
     free.unspent r.kept.limits.few_attempts

@@ -1,10 +1,9 @@
 -- The index of a board: readings of the journal.
-use Rattle.std.specs.Prelude.{◌||◌, nat_le, ◌≡◌, ℕ, suc, ◌+◌, ◌-◌, ◌≤◌, Option, None, Some, IsSome}
+use Rattle.std.specs.Prelude.{◌≡◌, ℕ, suc, ◌+◌, ◌-◌, ◌≤◌, Option, None, Some, IsSome}
 use Rattle.std.specs.Prelude.{is_some, List, [], ◌∷◌, map, length, filter_map, count_by, All}
 use Rattle.std.specs.Prelude.{slice_get, slice_index_or, option_and_then, if◌then◌else◌}
 use Rattle.std.specs.Arc.{arc_value}
 use Rattle.sat_base.specs.Limits.{most_jobs}
-use Rattle.trace_core.specs.Known.{item_at}
 use Rattle.entry_core.specs.declared.answers.Verdict.{Verdict}
 use Rattle.entry_core.specs.declared.answers.Verdict.TheVariants as verdict
 use Rattle.entry_core.specs.declared.entries.Entry.{Entry}
@@ -21,7 +20,8 @@ use Rattle.board_core.specs.declared.index.Ending.TheVariants as ending
 use Rattle.board_core.specs.declared.index.JobState.{JobState}
 use Rattle.board_core.specs.declared.index.Attempted.{Attempted}
 use Rattle.board_core.specs.declared.index.Index.{Index}
-use Rattle.board_core.specs.declared.rank.Rank.{Rank}
+pub use Rattle.board_core.specs.States.{new_job, or_new, state_at, rank_of, ranks_from}
+use Rattle.board_core.specs.Overtaking.{IsModelsOf}
 
 -- the answer of a `Decided` entry
 abbrev pub answered_by : Event → Option Verdict
@@ -31,7 +31,7 @@ answered_by _ = None
 abbrev pub verdict_in : List Entry → Ending → Option Verdict
 verdict_in journal (ending.Answered place) =
     option_and_then (λ entry. answered_by entry.event) (slice_get journal place)
-verdict_in journal ending.Cancelled = Some (verdict.Cancelled 0)
+verdict_in journal (ending.Cancelled by) = Some (verdict.Cancelled by)
 verdict_in journal ending.Spent = Some verdict.Spent
 verdict_in journal ending.Starved = Some verdict.Starved
 
@@ -39,18 +39,6 @@ verdict_in journal ending.Starved = Some verdict.Starved
 abbrev pub IsEndingOf : List Entry → Option Ending → Option Verdict → Type 0
 IsEndingOf journal None given = given ≡ None
 IsEndingOf journal (Some how) given = IsSome given × (verdict_in journal how ≡ given)
-
--- where a job stands that was just added
-abbrev pub new_job : JobState
-new_job = record { open_now = 0; spent = 0; ending = None }
-
-abbrev pub or_new : Option JobState → JobState
-or_new None = new_job
-or_new (Some state) = state
-
--- where the job of that number stands, which may come later
-abbrev pub state_at : List JobState → ℕ → JobState
-state_at states job = or_new (item_at states job)
 
 -- the job of an attempt, and where it stands
 abbrev pub attempted : Index → ℕ → Attempted
@@ -111,6 +99,7 @@ pub record IsIndexOf (rules : Rules) (journal : List Entry) (index : Index) : Ty
   pub literals : index.literals ≡ literals journal
   pub settled : index.settled ≡ settled_jobs rules journal
   pub open_now : index.open_now ≡ count_by (is_open journal) (attempts journal)
+  pub models : IsModelsOf rules journal index.models
 
 -- the entries that may still come without memory: one for each unsettled job, each open attempt,
 -- and the closing
@@ -124,15 +113,3 @@ pub record IsCountable (index : Index) : Type 0 where
   pub settled : index.settled ≤ length index.jobs.items
   pub jobs : length index.jobs.items ≤ most_jobs
   pub open_now : index.open_now ≤ 4294967295
-
--- where a job stands among those that wait: it isn't settled, and its open and spent attempts are
--- fewer than it may have
-abbrev pub rank_of : ℕ → ℕ → JobState → Option Rank
-rank_of most job state =
-    if is_some state.ending || nat_le most (state.open_now + state.spent) then None
-    else Some (record { open_now = state.open_now; job = job })
-
--- the ranks of the jobs, the first of which has this number
-abbrev pub ranks_from : ℕ → ℕ → List JobState → List (Option Rank)
-ranks_from most job [] = []
-ranks_from most job (state ∷ rest) = rank_of most job state ∷ ranks_from most (suc job) rest

@@ -1,5 +1,5 @@
 -- What a board keeps.
-use Rattle.std.specs.Prelude.{◌≡◌, ◌+◌, ◌≤◌, false, List, length, vec_capacity}
+use Rattle.std.specs.Prelude.{◌≡◌, ◌+◌, ◌≤◌, List, length, vec_capacity}
 use Rattle.sat_base.specs.Limits.{most_clauses, most_jobs, most_literals, most_packets}
 use Rattle.entry_core.specs.declared.entries.Entry.{Entry}
 use Rattle.entry_core.specs.Journal.{jobs, inputs, literals, packets}
@@ -22,7 +22,6 @@ pub record AreFew (journal : List Entry) : Type 0 where
 
 pub record IsKept (a : Inside) : Type 0 where
   pub limits : AreWithinLimits a.rules
-  pub all_answered : a.rules.first ≡ false
   pub legal : IsLegal a.rules a.journal.items
   pub few : AreFew a.journal.items
   pub orderly : IsOrderly a.journal.items

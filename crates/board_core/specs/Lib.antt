@@ -1,6 +1,8 @@
 pub mod Rank
 pub mod Tree
 pub mod State
+pub mod States
+pub mod Overtaking
 pub mod Index
 pub mod Kept
 pub mod Replies

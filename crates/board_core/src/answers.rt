@@ -35,7 +35,7 @@ pub(crate) fn outcome_in(journal: &[Entry], how: Ending) -> Outcome
 {
     match how {
         Ending::Answered(place) => answer_at(journal, place).outcome(),
-        Ending::Cancelled => Outcome::Cancelled(0),
+        Ending::Cancelled(by) => Outcome::Cancelled(by),
         Ending::Spent => Outcome::Spent,
         Ending::Starved => Outcome::Starved,
     }
@@ -50,7 +50,7 @@ pub(crate) fn verdict_of(journal: &[Entry], how: Ending) -> Result<Verdict, Allo
 {
     Ok(match how {
         Ending::Answered(place) => Verdict::Answered(answer_at(journal, place).clone()?),
-        Ending::Cancelled => Verdict::Cancelled(0),
+        Ending::Cancelled(by) => Verdict::Cancelled(by),
         Ending::Spent => Verdict::Spent,
         Ending::Starved => Verdict::Starved,
     })

@@ -1,6 +1,6 @@
 //! A board, and what it tells.
 
-ghost use Rattle.std.specs.Prelude.{◌≡◌, [], length, false, IfOk};
+ghost use Rattle.std.specs.Prelude.{◌≡◌, [], length, IfOk};
 ghost use Rattle.entry_core.specs.Journal.{jobs, packets};
 ghost use Rattle.entry_core.specs.Settled.{settled_jobs};
 ghost use Rattle.entry_core.specs.Legal.{AreWithinLimits, IsLegal};
@@ -36,8 +36,7 @@ impl Model for Board {
 impl Board {
     /// A board with an empty journal.
     pub fn new(alloc: Global, rules: Rules) -> Result<Board, AllocError>
-        requires limits { AreWithinLimits rules }
-        requires all_answered { rules.first ≡ false }
+        requires { AreWithinLimits rules }
         ensures { IfOk result (λ board. board ≡ record { rules = rules; journal = [] }) }
     {
         Ok(Board {
@@ -55,6 +54,7 @@ impl Board {
                 literals: 0,
                 settled: 0,
                 open_now: 0,
+                models: None,
             },
             alloc,
         })

@@ -10,14 +10,15 @@ ghost use Rattle.board_core.specs.Replies.{IsUnsettled, HasRoomFor, IsAddFault, 
 
 use crate::board::Board;
 use crate::faults::{AddFault, CancelFault, LookFault};
-use crate::index::{Ending, JobState, put, rank_of, state};
+use crate::index::{Ending, JobState, newly_settled, put, rank_of, state};
 use entry_core::{Entry, Event, Segment};
 use sat_base::limits::{MOST_CLAUSES, MOST_JOBS, MOST_LITERALS};
 use std::sync::Arc;
 
 impl Board {
     /// Adds a job, and answers its number. The first refusal that stands is answered: a closing,
-    /// then the limits of jobs, clauses and literals, then want of memory.
+    /// then the limits of jobs, clauses and literals, then want of memory. Under the rule `first` a
+    /// job that comes after a model is cancelled at once.
     pub fn add(&mut self, caller: u32, segment: Arc<Segment>) -> Result<u32, AddFault>
         requires client { IsClient self.old.rules caller }
         ensures ok { OnOk result (self.new ≡ entered self.old caller (event.Added segment)) }
@@ -47,17 +48,22 @@ impl Board {
         self.index.segments.reserve(1)?;
         self.journal.reserve(room + 2)?;
         let job = before as u32 + 1;
+        let state = JobState {
+            ending: self.index.next_ending(),
+            ..JobState::NEW
+        };
         self.index
             .waiting
-            .push(rank_of(self.rules.attempts, job, JobState::NEW))?;
+            .push(rank_of(self.rules.attempts, job, state))?;
         self.journal.push_reserved(Entry {
             caller,
             event: Event::Added(segment),
         });
-        self.index.jobs.push_reserved(JobState::NEW);
+        self.index.jobs.push_reserved(state);
         self.index.segments.push_reserved(copy);
         self.index.clauses += clauses;
         self.index.literals += literals;
+        self.index.settled += newly_settled(state.ending);
         Ok(job)
     }
 
@@ -98,7 +104,7 @@ impl Board {
                 });
                 let before = state(&self.index.jobs, job);
                 let after = JobState {
-                    ending: Some(Ending::Cancelled),
+                    ending: Some(Ending::Cancelled(0)),
                     ..before
                 };
                 put(

@@ -1,9 +1,9 @@
 //! The calls that end an attempt. None of them takes memory.
 
-ghost use Rattle.std.specs.Prelude.{◌≡◌, None, IsSome, is_some, OnOk, OnErr, IfErr, nat_le};
+ghost use Rattle.std.specs.Prelude.{◌≡◌, ◌&&◌, None, IsSome, OnOk, OnErr, IfErr, nat_le};
 ghost use Rattle.std.specs.Prelude.{if◌then◌else◌, Some};
 ghost use Rattle.std.specs.Arc.{arc_value};
-ghost use Rattle.entry_core.specs.Settled.{settled};
+ghost use Rattle.entry_core.specs.Settled.{settled, is_model};
 ghost use Rattle.entry_core.specs.Right.{IsRightAnswer, IsSpentFor};
 ghost use Rattle.entry_core.specs.declared.entries.Event.TheVariants as event;
 ghost use Rattle.board_core.specs.declared.index.Ending.TheVariants as ending;
@@ -13,7 +13,7 @@ ghost use Rattle.board_core.specs.Replies.{IsOwn, HasOutcome, job_at};
 use crate::answers::outcome_in;
 use crate::board::Board;
 use crate::faults::Late;
-use crate::index::{Ending, JobState};
+use crate::index::{Ending, JobState, newly_settled};
 use entry_core::{Answer, Clauses, Entry, Event};
 use std::sync::Arc;
 
@@ -49,7 +49,8 @@ impl Board {
         Ok(())
     }
 
-    /// Ends an attempt with an answer.
+    /// Ends an attempt with an answer. Under the rule `first` a model cancels every later job; no
+    /// job is looked at for two models.
     pub fn decide(&mut self, caller: u32, attempt: u32, answer: Arc<Answer>) -> Result<(), Late>
         requires own { IsOwn self.old caller attempt }
         requires right { IsRightAnswer self.old.rules.traces self.old.journal
@@ -66,6 +67,7 @@ impl Board {
         if let Some(how) = own.state.ending {
             return Err(Late(outcome_in(&self.journal, how)));
         }
+        let cancels = cancels_later(self.rules.first, &answer);
         self.journal.push_reserved(Entry {
             caller,
             event: Event::Decided { attempt, answer },
@@ -77,6 +79,10 @@ impl Board {
         };
         self.index.end(self.rules.attempts, own.job, after);
         self.index.settled += 1;
+        if !cancels {
+            return Ok(());
+        }
+        self.index.overtake(self.rules.attempts, own.job);
         Ok(())
     }
 
@@ -138,12 +144,12 @@ fn ending_by_budget(spent: u32, most: u32) -> Option<Ending>
     }
 }
 
-// How many jobs an ending settles.
-fn newly_settled(ending: Option<Ending>) -> usize
-    ensures { result ≡ (if is_some ending then 1 else 0) }
+// Whether an answer cancels the later jobs: under the rule `first` a model does.
+fn cancels_later(first: bool, answer: &Answer) -> bool
+    ensures { result ≡ (first && is_model answer.now) }
 {
-    match ending {
-        Some(_) => 1,
-        None => 0,
+    match answer {
+        Answer::Model(_) => first,
+        Answer::Refuted(_, _) => false,
     }
 }

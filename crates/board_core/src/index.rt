@@ -1,9 +1,13 @@
 //! What a board keeps beside its journal, so that no call walks the journal.
 
-ghost use Rattle.std.specs.Prelude.{◌≡◌, ◌-◌, ◌≤◌, length, slice_set};
+ghost use Rattle.std.specs.Prelude.{◌≡◌, ◌+◌, ◌-◌, ◌≤◌, Some, length, slice_set};
+ghost use Rattle.std.specs.Prelude.{is_some, if◌then◌else◌};
 ghost use Rattle.board_core.specs.Index.{HasAttempt, MayEnd, attempted, ended_at};
 ghost use Rattle.trace_core.specs.Known.{item_at};
-ghost use Rattle.board_core.specs.Index.{state_at, rank_of, room, IsCountable};
+ghost use Rattle.board_core.specs.Index.{state_at, rank_of, ranks_from, room, IsCountable};
+ghost use Rattle.board_core.specs.Overtaking.{next_ending, last_of, models_after, overtaken_at};
+ghost use Rattle.board_core.specs.Overtaking.{overtaken_state, ended_up_to, AreOvertaken};
+ghost use Rattle.board_core.specs.Overtaking.{MayOvertake};
 
 use crate::rank::Rank;
 use crate::tournament::Tournament;
@@ -16,7 +20,8 @@ use trace_core::Packet;
 #[derive(Clone, Copy, Debug, PartialEq, Eq)]
 pub(crate) enum Ending {
     Answered(usize),
-    Cancelled,
+    /// By a client for 0, otherwise by a model of the earlier job of that number.
+    Cancelled(u32),
     Spent,
     Starved,
 }
@@ -46,6 +51,14 @@ pub(crate) struct Attempted {
     pub(crate) state: JobState,
 }
 
+/// The jobs of the first and the last model. A model cancels every later job, so that each next one
+/// is of a smaller job.
+#[derive(Clone, Copy, Debug, PartialEq, Eq)]
+pub(crate) struct Models {
+    pub(crate) first: u32,
+    pub(crate) last: u32,
+}
+
 /// Readings of the journal.
 #[derive(Debug, Drop)]
 pub(crate) struct Index {
@@ -64,6 +77,9 @@ pub(crate) struct Index {
     /// How many jobs are settled, and how many attempts are open.
     pub(crate) settled: usize,
     pub(crate) open_now: usize,
+    /// The models, kept where a model cancels every later job: then each job after the last
+    /// model's is settled.
+    pub(crate) models: Option<Models>,
 }
 
 impl Index {
@@ -98,6 +114,35 @@ impl Index {
     {
         put(&mut self.jobs, &mut self.waiting, most, job, state);
         self.open_now -= 1;
+    }
+
+    /// How a job is settled that is added now.
+    pub(crate) fn next_ending(&self) -> Option<Ending>
+        ensures { result ≡ next_ending self.now.models }
+    {
+        match self.models {
+            Some(models) => Some(Ending::Cancelled(models.first)),
+            None => None,
+        }
+    }
+
+    /// Cancels every later job that isn't settled, by a model of job `by`. No job is looked at by
+    /// two models, since those after the last model's are settled.
+    pub(crate) fn overtake(&mut self, most: u32, by: u32)
+        requires { MayOvertake most self.old by }
+        ensures jobs { AreOvertaken by (last_of self.old.models (length self.old.jobs.items))
+            self.old.jobs.items self.new.jobs.items }
+        ensures ranked { self.new.waiting ≡ ranks_from most 1 self.new.jobs.items }
+        ensures settled { self.new.settled + ended_up_to self.old.jobs.items (length self.old.jobs.items)
+            ≡ self.old.settled + ended_up_to self.new.jobs.items (length self.old.jobs.items) }
+        ensures no_fewer { self.old.settled ≤ self.new.settled }
+        ensures rest { self.new ≡ overtaken_at self.old self.new by }
+    {
+        let models = self.models;
+        let last = last_of(models, self.jobs.len() as u32);
+        let more = overtake(&mut self.jobs, &mut self.waiting, most, by, last);
+        self.settled += more;
+        self.models = Some(models_after(models, by));
     }
 
     /// How many entries may still come without memory: one for each unsettled job, each open
@@ -153,4 +198,94 @@ pub(crate) fn put(
     let place = job as usize - 1;
     jobs[place] = state;
     waiting.set(place, rank_of(most, job, state));
+}
+
+/// Cancels the jobs after `by`, up to the last of them, that aren't settled, and answers how many
+/// they are.
+fn overtake(
+    jobs: &mut Vec<JobState>,
+    waiting: &mut Tournament,
+    most: u32,
+    by: u32,
+    last: u32,
+) -> usize
+    requires ranked { waiting.old ≡ ranks_from most 1 jobs.old.items }
+    requires from { by ≤ last }
+    requires there { last ≤ length jobs.old.items }
+    requires few { length jobs.old.items ≤ 1048576 }
+    ensures jobs { AreOvertaken by last jobs.old.items jobs.new.items }
+    ensures ranked { waiting.new ≡ ranks_from most 1 jobs.new.items }
+    ensures settled { ended_up_to jobs.new.items (length jobs.old.items)
+        ≡ ended_up_to jobs.old.items (length jobs.old.items) + result }
+{
+    let mut more = 0;
+    let mut job = by + 1;
+    while job <= last {
+        more += overtake_one(jobs, waiting, most, by, job);
+        job += 1;
+    }
+    more
+}
+
+// Cancels a job by an earlier one's model unless it is settled, and answers how many it settled.
+fn overtake_one(
+    jobs: &mut Vec<JobState>,
+    waiting: &mut Tournament,
+    most: u32,
+    by: u32,
+    job: u32,
+) -> usize
+    requires ranked { waiting.old ≡ ranks_from most 1 jobs.old.items }
+    requires from_one { 1 ≤ job }
+    requires there { job ≤ length jobs.old.items }
+    ensures jobs { jobs.new.items
+        ≡ slice_set jobs.old.items (job - 1) (overtaken_state by (state_at jobs.old.items job)) }
+    ensures ranked { waiting.new ≡ ranks_from most 1 jobs.new.items }
+    ensures settled { ended_up_to jobs.new.items (length jobs.old.items)
+        ≡ ended_up_to jobs.old.items (length jobs.old.items) + result }
+    ensures one { result ≤ 1 }
+{
+    let before = state(jobs, job);
+    if before.ending.is_some() {
+        return 0;
+    }
+    let after = JobState {
+        ending: Some(Ending::Cancelled(by)),
+        ..before
+    };
+    put(jobs, waiting, most, job, after);
+    1
+}
+
+// After which job each one is settled, where there are so many jobs.
+fn last_of(models: Option<Models>, jobs: u32) -> u32
+    ensures { result ≡ last_of models jobs }
+{
+    match models {
+        Some(models) => models.last,
+        None => jobs,
+    }
+}
+
+// The models with one more.
+fn models_after(models: Option<Models>, by: u32) -> Models
+    ensures { result ≡ models_after models by }
+{
+    match models {
+        Some(models) => Models { last: by, ..models },
+        None => Models {
+            first: by,
+            last: by,
+        },
+    }
+}
+
+/// How many jobs an ending settles.
+pub(crate) fn newly_settled(ending: Option<Ending>) -> usize
+    ensures { result ≡ (if is_some ending then 1 else 0) }
+{
+    match ending {
+        Some(_) => 1,
+        None => 0,
+    }
 }

@@ -38,8 +38,7 @@ impl Service {
         alloc: Global,
         rules: Rules,
     ) -> Result<(Service, Vec<ClientPass>, Vec<WorkerPass>), AllocError>
-        requires limits { AreWithinLimits rules }
-        requires all_answered { rules.first ≡ false }
+        requires { AreWithinLimits rules }
         ensures rules { IfOk result (λ made. made.0.lock.basis ≡ rules) }
         ensures number { IfOk result
             (λ made. made.0.lock.passes ≡ rules.clients + rules.workers) }

@@ -33,8 +33,7 @@ struct Parts {
 
 // Two clients and a worker, whose jobs have one attempt.
 fn rules() -> Rules
-    ensures limits { AreWithinLimits result }
-    ensures all_answered { result.first ≡ false }
+    ensures { AreWithinLimits result }
 {
     Rules {
         clients: 2,

@@ -4,12 +4,15 @@ use Rattle.entry_core.specs.Legal.{IsClient}
 use Rattle.entry_core.specs.declared.segments.Segment.{Segment}
 use Rattle.entry_core.specs.Journal.{segment_literals}
 use Rattle.entry_core.specs.declared.entries.Event.TheVariants as event
-use Rattle.board_core.specs.Index.{room, rank_of, new_job}
+use Rattle.std.specs.Prelude.{is_some, if◌then◌else◌}
+use Rattle.board_core.specs.Index.{room, rank_of}
+use Rattle.board_core.proofs.Changes.{added_state}
 use Rattle.board_core.specs.Kept.{state_of}
 use Rattle.board_core.specs.State.{State}
 use Rattle.board_core.specs.Replies.{HasRoomFor}
 use Rattle.board_core.proofs.Verdicts.{entry_by}
-use Rattle.board_core.proofs.Keeping.{countable, kept_grown, kept_added}
+use Rattle.board_core.proofs.Keeping.{countable, kept_grown, kept_added, settled_few}
+use Rattle.board_core.proofs.Overtaken.{one_at_most}
 use Rattle.board_core.proofs.board.Board.add.Goals as goal
 
 pub room-room-requires : goal.room-room-requires
@@ -37,9 +40,10 @@ invariant_of-self-2 c =
     let known = kept.index.literals in
     let exact : c.literals_of-literals.result ≡ segment_literals (arc_value c.args.segment) = omega arith in
     let number : c.len-before.result ≡ length c.self.inside.index.jobs.items = c.len-before.ensures ∙ c.self.inside.index.jobs.ok.0 in
-    let ranked : c.push.new.self ≡ c.self.inside.index.waiting ++ rank_of c.self.inside.rules.attempts (length c.self.inside.index.jobs.items + 1) new_job ∷ [] =
+    let ranked : c.push.new.self ≡ c.self.inside.index.waiting ++ rank_of c.self.inside.rules.attempts (length c.self.inside.index.jobs.items + 1) (added_state c.self.inside.index) ∷ [] =
     c.in_ok-push.ensures.ok ∙ ap (λ rank. c.self.inside.index.waiting ++ rank ∷ []) c.rank_of.ensures
-    ∙ ap (λ n. c.self.inside.index.waiting ++ rank_of c.self.inside.rules.attempts (n + 1) new_job ∷ []) number in
+    ∙ ap (λ how. c.self.inside.index.waiting ++ rank_of c.self.inside.rules.attempts (c.len-before.result + 1) (record { open_now = 0; spent = 0; ending = how }) ∷ []) c.next_ending.ensures
+    ∙ ap (λ n. c.self.inside.index.waiting ++ rank_of c.self.inside.rules.attempts (n + 1) (added_state c.self.inside.index) ∷ []) number in
     let fits : HasRoomFor (state_of c.self.inside) (arc_value c.args.segment) = record {
       clauses = record {
         job = record {
@@ -50,9 +54,16 @@ invariant_of-self-2 c =
       };
       few_literals = omega arith;
     } in
-    kept_added c.self.inside c.push_reserved.new.self c.push_reserved-2.new.self c.push_reserved-3.new.self c.push.new.self c.args.caller c.args.segment c.in_ok-copy.copy _ _ c.self.invariant
+    kept_added c.self.inside c.push_reserved.new.self c.push_reserved-2.new.self c.push_reserved-3.new.self c.push.new.self c.args.caller c.args.segment c.in_ok-copy.copy _ _ c.newly_settled.result c.self.invariant
     (subst (λ (board : State). IsClient board.rules c.args.caller) (sym c.self.view_is) c.requires.client) fits
     (c.push_reserved.ensures.items ∙ ap (λ xs. xs ++ entry_by c.args.caller (event.Added c.args.segment) ∷ []) c.reserve-3.ensures.items) spare
-    (c.push_reserved-2.ensures.items ∙ ap (λ xs. xs ++ new_job ∷ []) c.reserve.ensures.items)
+    (c.push_reserved-2.ensures.items ∙ ap (λ xs. xs ++ (record { open_now = 0; spent = 0; ending = c.next_ending.result }) ∷ []) c.reserve.ensures.items
+    ∙ ap (λ how. c.self.inside.index.jobs.items ++ (record { open_now = 0; spent = 0; ending = how }) ∷ []) c.next_ending.ensures)
     (c.push_reserved-3.ensures.items ∙ ap (λ xs. xs ++ c.in_ok-copy.copy ∷ []) c.reserve-2.ensures.items) (search rules)
-    given exact ranked
+    given exact ranked (c.newly_settled.ensures ∙ ap (λ how. if is_some how then 1 else 0) c.next_ending.ensures)
+
+pub overflow_add-self-3 : goal.overflow_add-self-3
+overflow_add-self-3 c =
+    let few = settled_few c.self.inside c.self.invariant in
+    let one = one_at_most (is_some c.next_ending.result) _ c.newly_settled.ensures in
+    omega arith

@@ -27,5 +27,5 @@ invariant_of-self c =
     kept_cancelled c.self.inside c.push_reserved.new.self c.put.new.jobs c.put.new.waiting c.args.caller c.args.job c.self.invariant
     (subst (λ (board : State). IsClient board.rules c.args.caller) (sym c.self.view_is) c.requires.client) unsettled
     c.push_reserved.ensures.items c.push_reserved.ensures.capacity
-    (c.put.ensures.jobs ∙ ap (λ (state : JobState). slice_set c.self.inside.index.jobs.items (c.args.job - 1) (record state { ending = Some ending.Cancelled })) before)
-    (c.put.ensures.waiting ∙ ap (λ (state : JobState). slice_set c.self.inside.index.waiting (c.args.job - 1) (rank_of c.self.inside.rules.attempts c.args.job (record state { ending = Some ending.Cancelled }))) before)
+    (c.put.ensures.jobs ∙ ap (λ (state : JobState). slice_set c.self.inside.index.jobs.items (c.args.job - 1) (record state { ending = Some (ending.Cancelled 0) })) before)
+    (c.put.ensures.waiting ∙ ap (λ (state : JobState). slice_set c.self.inside.index.waiting (c.args.job - 1) (rank_of c.self.inside.rules.attempts c.args.job (record state { ending = Some (ending.Cancelled 0) }))) before)

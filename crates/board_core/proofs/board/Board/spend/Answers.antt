@@ -1,19 +1,16 @@
-use Rattle.std.proofs.Common.{◌≡◌, ◌∙◌, ℕ, ◌+◌, ◌-◌, ◌≤◌, ap, sym, subst, arith, slice_set, if◌then◌else◌}
+use Rattle.std.proofs.Common.{◌∙◌, ℕ, ◌+◌, ◌-◌, ap, sym, subst, arith, slice_set, if◌then◌else◌}
 use Rattle.std.specs.Arc.{arc_value}
-use Rattle.std.specs.Prelude.{Bool, true, false, is_some}
+use Rattle.std.specs.Prelude.{is_some}
 use Rattle.entry_core.specs.Right.{IsSpentFor}
 use Rattle.board_core.specs.declared.index.JobState.{JobState}
 use Rattle.board_core.specs.State.{State}
 use Rattle.board_core.specs.Index.{rank_of, ended_at}
 use Rattle.board_core.specs.Kept.{IsKept}
+use Rattle.board_core.proofs.Overtaken.{one_at_most}
 use Rattle.board_core.proofs.Endings.{spent_state, kept_spent}
 use Rattle.board_core.proofs.Ready.{has_attempt, ready, may_end, one_open, none_yet, in_time, late}
 use Rattle.board_core.proofs.Ready.{inside_out, written, kept_with, count_fits, spent_few}
 use Rattle.board_core.proofs.board.Board.spend.Goals as goal
-
-one_at_most : (b : Bool) (n : ℕ) → n ≡ (if b then 1 else 0) → n ≤ 1
-one_at_most true n is = omega arith
-one_at_most false n is = omega arith
 
 pub attempted-own-requires : goal.attempted-own-requires
 attempted-own-requires c = has_attempt c.self.view_is c.self.invariant c.requires.own
