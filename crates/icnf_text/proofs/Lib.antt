@@ -9,3 +9,4 @@ pub mod Truth
 pub mod Runs
 pub mod Fronts
 pub mod ReadBack
+pub mod AheadRead

@@ -8,15 +8,15 @@ use Rattle.icnf_text.specs.Judgement.{statements, wrong}
 use Rattle.icnf_text.specs.Machine.{State, Step, quiet, start, read_byte, and_then, read_bytes, finished, HasRead}
 use Rattle.icnf_text.proofs.Truth.{run, tells, ends, stopped_byte}
 
-read_bytes-append : (step : Step) (xs ys : List ℕ) → read_bytes step (xs ++ ys) ≡ read_bytes (read_bytes step xs) ys
+pub read_bytes-append : (step : Step) (xs ys : List ℕ) → read_bytes step (xs ++ ys) ≡ read_bytes (read_bytes step xs) ys
 read_bytes-append step [] ys = refl
 read_bytes-append step (x ∷ xs) ys = read_bytes-append (and_then step x) xs ys
 
-state_after : (step : Step) (bytes : List ℕ) → (read_bytes step bytes).state ≡ (read_bytes (quiet step.state) bytes).state
+pub state_after : (step : Step) (bytes : List ℕ) → (read_bytes step bytes).state ≡ (read_bytes (quiet step.state) bytes).state
 state_after step [] = refl
 state_after step (b ∷ bs) = state_after (and_then step b) bs ∙ sym (state_after (and_then (quiet step.state) b) bs)
 
-given_after : (step : Step) (bytes : List ℕ) → (read_bytes step bytes).given ≡ step.given ++ (read_bytes (quiet step.state) bytes).given
+pub given_after : (step : Step) (bytes : List ℕ) → (read_bytes step bytes).given ≡ step.given ++ (read_bytes (quiet step.state) bytes).given
 given_after step [] = sym (append-nil step.given)
 given_after step (b ∷ bs) =
     given_after (and_then step b) bs

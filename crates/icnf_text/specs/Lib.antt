@@ -3,5 +3,6 @@ pub mod Layout
 pub mod Number
 pub mod Judgement
 pub mod Machine
+pub mod Ahead
 pub mod Printed
 pub mod Reasons

@@ -61,6 +61,11 @@ extended word.P byte = word.Strange
 extended (word.Inccnf count) byte = next_letter count byte
 extended word.Strange byte = word.Strange
 
+-- the word with more bytes
+abbrev pub extended_by : Word → List ℕ → Word
+extended_by w [] = w
+extended_by w (byte ∷ bytes) = extended_by (extended w byte) bytes
+
 abbrev pub lit_code : Bool → ℕ → Option ℕ
 lit_code negative variable =
     if nat_lt 0 variable && nat_le variable greatest_variable

@@ -4,6 +4,7 @@
 //! definition in `specs/`. This crate knows no solver, no source of bytes and no runtime.
 #![tactic(auto)]
 
+mod ahead;
 mod faults;
 mod parser;
 mod places;

@@ -1,6 +1,7 @@
 //! Statements from tokens.
 
-ghost use Rattle.std.specs.Prelude.{◌≡◌, ◌++◌, IfOk, OnOk};
+ghost use Rattle.std.specs.Prelude.{◌≡◌, ◌++◌, IfOk, OnOk, IsTrue};
+ghost use Rattle.icnf_text.specs.declared.parser.Phase.TheVariants as phase;
 ghost use Rattle.icnf_text.specs.Machine.{begun, end_at, is_inccnf, is_p, line_at, literal_taken};
 ghost use Rattle.icnf_text.specs.Machine.{lit_code, mark_at, start, token_taken, word_at};
 ghost use Rattle.icnf_text.specs.Machine.{zero_taken};
@@ -119,7 +120,7 @@ impl Parser {
     }
 
     /// Takes a literal that stands on this line.
-    fn literal(
+    pub(crate) fn literal(
         &mut self,
         line: u64,
         negative: bool,
@@ -145,7 +146,12 @@ impl Parser {
     }
 
     /// Takes the token `0` that stands on this line, and gives the statement that it ends.
-    fn zero(&mut self, line: u64, given: &mut Vec<Numbered>) -> Result<Option<Reason>, AllocError>
+    #[inline(always)]
+    pub(crate) fn zero(
+        &mut self,
+        line: u64,
+        given: &mut Vec<Numbered>,
+    ) -> Result<Option<Reason>, AllocError>
         ensures state { OnOk result (self.new ≡ (zero_taken self.old line).parse) }
         ensures reason { IfOk result (λ reason. reason ≡ (zero_taken self.old line).reason) }
         ensures given { OnOk result
@@ -184,6 +190,13 @@ impl Parser {
             Word::Number { negative, variable } => self.literal(line, negative, variable),
             _ => Ok(Some(Reason::Token)),
         }
+    }
+
+    /// Whether statements are read: the header and its line have come.
+    pub(crate) fn is_in_body(&self) -> bool
+        ensures { IsTrue result → self.now.phase ≡ phase.Body }
+    {
+        matches!(self.phase, Phase::Body)
     }
 
     /// Takes a word that has ended on this line, says what is wrong with it, and adds the statement

@@ -5,8 +5,13 @@ ghost use Rattle.std.specs.Prelude.{OnErr, IfOk, IsErr};
 ghost use Rattle.icnf_text.specs.Judgement.{fault_on, statements, wrong};
 ghost use Rattle.icnf_text.specs.declared.faults.Fault.{Fault};
 ghost use Rattle.icnf_text.specs.Machine.{HasRead, IsLost, finished, last_at, put_at, read_byte};
+ghost use Rattle.std.specs.Prelude.{◌<◌, ◌+◌, length, take, IsTrue, None};
+ghost use Rattle.icnf_text.specs.Ahead.{IsBetween, end_read, is_between, number_read};
+ghost use Rattle.icnf_text.specs.declared.words.Word.TheVariants as word_as;
 ghost use Rattle.icnf_text.specs.Machine.{read_bytes, word_ended, margin, line_ended, quiet};
+ghost use Rattle.icnf_text.specs.Machine.{zero_taken};
 
+use crate::ahead::{Number, is_end, number_at};
 use crate::parser::Parser;
 use crate::places::Place;
 use crate::words::Word;
@@ -135,10 +140,127 @@ impl Reader {
         ensures given { OnOk result
             (given.new.items ≡ given.old.items ++ (read_bytes (quiet self.old) piece.now).given) }
     {
-        for byte in piece {
-            self.read(*byte, given)?;
+        let mut at = 0;
+        while at < piece.len() {
+            self.read(piece[at], given)?;
+            at += 1;
+            at += self.read_run(&piece[at..], given)?;
         }
         Ok(())
+    }
+
+    // Literals and ends of statements at the front of these bytes, as many as can be read in one
+    // go, maybe none: how many bytes they are.
+    fn read_run(&mut self, bytes: &[u8], given: &mut Vec<Numbered>) -> Result<usize, AllocError>
+        ensures within { IfOk result (λ count. count ≤ length bytes.now) }
+        ensures state { IfOk result (λ count.
+            self.new ≡ (read_bytes (quiet self.old) (take count bytes.now)).state) }
+        ensures given { IfOk result (λ count. given.new.items
+            ≡ given.old.items ++ (read_bytes (quiet self.old) (take count bytes.now)).given) }
+    {
+        if !self.is_between() {
+            return Ok(0);
+        }
+        if bytes.len() as u64 > MOST_BYTES - self.bytes {
+            return Ok(0);
+        }
+        let mut at = 0;
+        while at < bytes.len() {
+            let count = self.read_ahead(&bytes[at..], given)?;
+            at += count;
+            if count == 0 || self.fault.is_some() {
+                break;
+            }
+        }
+        Ok(at)
+    }
+
+    // The end of a statement and of its line, or a literal and the space behind it, where these
+    // bytes come next; no byte where others come.
+    fn read_ahead(&mut self, bytes: &[u8], given: &mut Vec<Numbered>) -> Result<usize, AllocError>
+        requires some { 0 < length bytes.now }
+        requires between { IsBetween self.old }
+        requires room { self.old.bytes + length bytes.now ≤ 4294967296 }
+        ensures within { IfOk result (λ count. count ≤ length bytes.now) }
+        ensures state { IfOk result (λ count.
+            self.new ≡ (read_bytes (quiet self.old) (take count bytes.now)).state) }
+        ensures given { IfOk result (λ count. given.new.items
+            ≡ given.old.items ++ (read_bytes (quiet self.old) (take count bytes.now)).given) }
+        ensures counted { IfOk result (λ count. self.new.bytes ≡ self.old.bytes + count) }
+        ensures between { OnOk result (self.new.fault ≡ None → IsBetween self.new) }
+    {
+        if is_end(bytes) {
+            self.read_end(given)?;
+            return Ok(2);
+        }
+        match number_at(bytes) {
+            None => Ok(0),
+            Some(number) => {
+                self.read_number(number)?;
+                Ok(number.size)
+            }
+        }
+    }
+
+    // Whether the next byte begins a word of a statement, a comment, or none.
+    fn is_between(&self) -> bool
+        ensures { IsTrue result → IsBetween self.now }
+    {
+        self.fault.is_none()
+            && self.parser.is_in_body()
+            && is_between(self.place)
+            && is_nothing(self.word)
+    }
+
+    // A literal and the space behind it.
+    fn read_number(&mut self, number: Number) -> Result<(), AllocError>
+        requires between { IsBetween self.old }
+        requires room { self.old.bytes + number.size ≤ 4294967296 }
+        ensures { OnOk result
+            (self.new ≡ number_read self.old number.negative number.variable number.size) }
+    {
+        let wrong = self
+            .parser
+            .literal(self.line, number.negative, number.variable)?;
+        self.bytes += number.size as u64;
+        self.place = Place::Gap;
+        match wrong {
+            None => Ok(()),
+            Some(reason) => {
+                self.fault = Some(Fault {
+                    line: self.line,
+                    reason,
+                });
+                Ok(())
+            }
+        }
+    }
+
+    // The token `0` and a line feed.
+    fn read_end(&mut self, given: &mut Vec<Numbered>) -> Result<(), AllocError>
+        requires between { IsBetween self.old }
+        requires room { self.old.bytes + 2 ≤ 4294967296 }
+        ensures state { OnOk result (self.new ≡ end_read self.old) }
+        ensures given { OnOk result (given.new.items
+            ≡ given.old.items ++ (zero_taken self.old.parse self.old.line).given) }
+    {
+        let wrong = self.parser.zero(self.line, given)?;
+        self.bytes += 2;
+        match wrong {
+            None => {
+                self.place = Place::Start;
+                self.line += 1;
+                Ok(())
+            }
+            Some(reason) => {
+                self.place = Place::Gap;
+                self.fault = Some(Fault {
+                    line: self.line,
+                    reason,
+                });
+                Ok(())
+            }
+        }
     }
 
     // The end of the text.
@@ -244,6 +366,21 @@ impl Reader {
         }
         Ok(())
     }
+}
+
+fn is_between(place: Place) -> bool
+    ensures { result ≡ is_between place }
+{
+    match place {
+        Place::Start | Place::Margin | Place::Gap => true,
+        _ => false,
+    }
+}
+
+fn is_nothing(word: Word) -> bool
+    ensures { IsTrue result → word ≡ word_as.Nothing }
+{
+    matches!(word, Word::Nothing)
 }
 
 fn margin(place: Place) -> Place

@@ -111,6 +111,10 @@ fn statements_have_the_lines_of_their_first_tokens(rt: HostRuntime) -> Result<()
             b"p inccnf\n1 0 a -8388607 8388607 0\n",
             "2c 1;2a 8388607 -8388607;",
         ),
+        (
+            b"p inccnf\n1 23 -456 0\n-78901 0\n0\n8388607 -8388607 0\n",
+            "2c 1 23 -456;3c -78901;4c;5c 8388607 -8388607;",
+        ),
         (b"p inccnf\n1 0\na 0\n2 3", "2c 1;3a;4 Unfinished"),
         (b"p inccnf\n1 0\na\n\n", "2c 1;4 Unfinished"),
     ];
@@ -124,6 +128,9 @@ fn the_first_wrong_token_is_told_with_its_line(rt: HostRuntime) -> Result<(), Fa
         (b"p inccnf\n8388608 0\n".as_slice(), "2 Variable"),
         (b"p inccnf\n1\n-8388608 0\n", "3 Variable"),
         (b"p inccnf\n99999999999999999999999999 0\n", "2 Variable"),
+        (b"p inccnf\n1 0\n2 9999999 0\n", "2c 1;3 Variable"),
+        (b"p inccnf\n1 0\n2 1234567x 0\n", "2c 1;3 Token"),
+        (b"p inccnf\n1 0\n2 12345678x 0\n", "2c 1;3 Token"),
         (b"p inccnf\n01 0\n", "2 Token"),
         (b"p inccnf\n+5 0\n", "2 Token"),
         (b"p inccnf\n-0 0\n", "2 Token"),

@@ -110,6 +110,9 @@ pub(crate) fn lit_of(negative: bool, variable: u32) -> Option<Lit>
     if variable > GREATEST_VARIABLE {
         return None;
     }
-    let number = variable as i32;
-    Lit::of(if negative { -number } else { number })
+    let lit = Lit::of(variable as i32)?;
+    if negative {
+        return Some(lit.negated());
+    }
+    Some(lit)
 }
