@@ -1,5 +1,5 @@
 -- The words of a run over a text, and the rules that they give.
-use Rattle.std.specs.Prelude.{List, Option, Some, None, ℕ, false, option_and_then}
+use Rattle.std.specs.Prelude.{List, Option, Some, None, ℕ, option_and_then}
 use Rattle.words.specs.Accepted.{Asked, Input, OfSum, OfText, accepted as asked_by}
 use Rattle.entry_core.specs.declared.rules.Rules.{Rules}
 
@@ -12,13 +12,13 @@ on_text command (OfSum number) = None
 abbrev pub accepted : List (List ℕ) → Option Asked
 accepted words = option_and_then (λ command. on_text command command.work) (asked_by words)
 
--- the rules of such a run on one thread: one client and one worker, and every job is worked on
+-- the rules of such a run on one thread: one client and one worker
 abbrev pub rules_of : Asked → Rules
 rules_of command = record {
   clients = 1;
   workers = 1;
   attempts = command.attempts;
   conflicts = command.conflicts;
-  first = false;
+  first = command.first;
   traces = command.trace;
 }

@@ -14,8 +14,8 @@ pub record IsAlone (rules : Rules) : Type 0 where
   pub clients : rules.clients ≡ 1
   pub workers : rules.workers ≡ 1
 
--- No job is cancelled, the bench fits the board, the worker has no open attempt, and the blocks
--- of some first jobs are written.
+-- No client cancelled a job, the bench fits the board, the worker has no open attempt, and the
+-- blocks of some first jobs are written.
 pub record IsBetweenPieces (desk : Desk) : Type 0 where
   pub alone : IsAlone desk.board.rules
   pub none_cancelled : cancelled desk.board.journal ≡ []

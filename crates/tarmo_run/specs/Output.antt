@@ -63,7 +63,7 @@ abbrev pub is_starved : Option Verdict → Bool
 is_starved (Some verdict.Starved) = true
 is_starved _ = false
 
--- given up or cancelled
+-- given up, or cancelled: by a client, or by the model of a smaller job
 abbrev pub is_undecided : Option Verdict → Bool
 is_undecided (Some verdict.Spent) = true
 is_undecided (Some (verdict.Cancelled by)) = true
@@ -139,7 +139,7 @@ pub record IsOutput (trace : Bool) (ending : Ending) (reading : Reading) (board 
   pub written : text ≡ blocks ++ last_line_of ending
 
 -- The sink took the whole output. The board's jobs are the text's queries, and each is settled;
--- where memory ran out they are its first queries. None was cancelled.
+-- where memory ran out they are its first queries. No client cancelled one.
 pub record WroteAll (trace : Bool) (reading : Reading) (board : State)
     (before after : Option (List ℕ)) (status : ℕ) : Type 0 where
   pub ending : Ending

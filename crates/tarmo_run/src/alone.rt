@@ -40,7 +40,7 @@ const SINK_FAILED: u8 = 4;
 pub struct Finish {
     /// The first of these that stands: 5 where the words are refused; 4 where the sink failed;
     /// 6 where memory ran out, for the run or for a job; 3 where the source failed; 2 where the
-    /// text has a wrong place; 1 where a job was given up; 0 otherwise.
+    /// text has a wrong place; 1 where a job was given up or cancelled; 0 otherwise.
     pub status: u8,
     /// The board with the text's jobs and their verdicts, which takes no more jobs. None where the
     /// words aren't accepted, or where there was no memory for them or for a board.
@@ -59,7 +59,9 @@ pub struct Finish {
 /// It stops reading at the end of the text, at its first wrong place, where the source fails, and
 /// where memory runs out; a text without end has a wrong place. Each block and the last line are
 /// handed to the sink as pieces of their own, and one flush follows the last line; after a failed
-/// write or flush nothing more is written, and jobs that aren't settled are cancelled.
+/// write or flush nothing more is written, and jobs that aren't settled are cancelled. Under
+/// `--first` a model cancels every later job, and the run is not stopped by that: each of them has
+/// its block.
 pub fn run_alone<S: Source, O: Sink>(
     alloc: Global,
     words: &[String],

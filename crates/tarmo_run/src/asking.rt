@@ -1,6 +1,6 @@
 //! What the words ask a run over a text to do.
 
-ghost use Rattle.std.specs.Prelude.{◌≡◌, None, Some, false, map, option_map, string_bytes};
+ghost use Rattle.std.specs.Prelude.{◌≡◌, None, Some, map, option_map, string_bytes};
 ghost use Rattle.std.specs.Prelude.{IfErr, IfOk};
 ghost use Rattle.entry_core.specs.Legal.{AreWithinLimits};
 ghost use Rattle.words.specs.Accepted.{Asked, OfText};
@@ -28,7 +28,6 @@ impl TextRun {
             accepted (map string_bytes words.now) ≡ Some command →
             command.work ≡ OfText (option_map string_bytes run.file)) }
         ensures limits { IfOk result (λ run. AreWithinLimits run.rules) }
-        ensures all_answered { IfOk result (λ run. run.rules.first ≡ false) }
         ensures alone { IfOk result (λ run. IsAlone run.rules) }
         ensures refused { IfErr result (λ fault. fault ≡ WordsFault.Refused →
             accepted (map string_bytes words.now) ≡ None) }
@@ -39,7 +38,7 @@ impl TextRun {
             workers: 1,
             attempts: command.attempts,
             conflicts: command.conflicts,
-            first: false,
+            first: command.first,
             traces: command.trace,
         };
         match command.work {

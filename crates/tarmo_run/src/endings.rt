@@ -24,7 +24,7 @@ use std::alloc::{AllocError, Global};
 /// The status of a run in which memory ran out.
 pub const NO_MEMORY: u8 = 6;
 
-/// The status of a run that gave up a job.
+/// The status of a run that gave up a job, or in which one was cancelled.
 pub const UNDECIDED: u8 = 1;
 
 /// How a run ends whose sink takes all that it writes.
@@ -42,7 +42,7 @@ pub enum Ending {
 
 impl Ending {
     /// The status of such a run over the board: 6 where a job found no memory; else that of the
-    /// ending, which is 1 instead of 0 where a job was given up.
+    /// ending, which is 1 instead of 0 where a job was given up or cancelled.
     pub(crate) fn status(self, board: &Board) -> u8
         ensures { result ≡ status_of self board.now }
     {

@@ -1,4 +1,5 @@
-//! How the jobs of a board are settled: by traces, under budgets, and up to a wrong place.
+//! How the jobs of a board are settled: by traces, under budgets, under the rule `first`, and up to
+//! a wrong place.
 
 use super::{Case, FIRST, NONE, PLAIN, assert_case, assert_settled, run};
 use entry_core::Outcome;
@@ -23,6 +24,11 @@ const REFUTED: &[Outcome] = &[Outcome::Refuted];
 const SPENT: &[Outcome] = &[Outcome::Spent];
 
 const SPENT_THEN_REFUTED: &[Outcome] = &[Outcome::Spent, Outcome::Refuted];
+
+// The second job has a model; the first one and the third ask the same, and have none.
+const THREE_JOBS: &str = "p inccnf\n1 2 0\n-1 0\na -2 0\na 0\na -2 0\n";
+
+const THIRD_CANCELLED: &[Outcome] = &[Outcome::Refuted, Outcome::Model, Outcome::Cancelled(2)];
 
 const TRACED: &[Case<'static>] = &[
     Case {
@@ -105,6 +111,50 @@ const UNDER_BUDGETS: &[Case<'static>] = &[
     },
 ];
 
+// A model cancels the jobs behind it, those that are read later too, and no other.
+const UNDER_FIRST: &[Case<'static>] = &[
+    Case {
+        words: "--first --workers 1",
+        text: "p inccnf\n1 0\na 1 0\n-1 0\na 0\n",
+        output: "j 1 SATISFIABLE\nv 1 0\nj 2 CANCELLED\nend 2\n",
+        status: 1,
+        outcomes: &[Outcome::Model, Outcome::Cancelled(1)],
+        ..PLAIN
+    },
+    Case {
+        words: "--first",
+        text: THREE_JOBS,
+        output: "j 1 UNSATISFIABLE\nf -2 0\nj 2 SATISFIABLE\nv -1 2 0\nj 3 CANCELLED\nend 3\n",
+        status: 1,
+        outcomes: THIRD_CANCELLED,
+        ..PLAIN
+    },
+    Case {
+        words: "--first",
+        text: THREE_JOBS,
+        cuts: &[31],
+        output: "j 1 UNSATISFIABLE\nf -2 0\nj 2 SATISFIABLE\nv -1 2 0\nj 3 CANCELLED\nend 3\n",
+        status: 1,
+        outcomes: THIRD_CANCELLED,
+        ..PLAIN
+    },
+    Case {
+        text: THREE_JOBS,
+        output: "j 1 UNSATISFIABLE\nf -2 0\nj 2 SATISFIABLE\nv -1 2 0\nj 3 UNSATISFIABLE\nf -2 0\n\
+            end 3\n",
+        outcomes: &[Outcome::Refuted, Outcome::Model, Outcome::Refuted],
+        ..PLAIN
+    },
+    // Without a model each job is worked on.
+    Case {
+        words: "--first",
+        text: "p inccnf\n0\na 0\na 5 0\n",
+        output: "j 1 UNSATISFIABLE\nf 0\nj 2 UNSATISFIABLE\nf 0\nend 2\n",
+        outcomes: &[Outcome::Refuted, Outcome::Refuted],
+        ..PLAIN
+    },
+];
+
 const UP_TO_THE_END: &[Case<'static>] = &[
     Case {
         text: "p inccnf\n",
@@ -171,6 +221,14 @@ fn refuted_parts_have_traces(rt: HostRuntime) -> Result<(), Fail> {
 #[test]
 fn a_job_is_given_up_after_its_attempts(rt: HostRuntime) -> Result<(), Fail> {
     for case in UNDER_BUDGETS {
+        assert_case(rt.alloc(), &rt, case)?;
+    }
+    Ok(())
+}
+
+#[test]
+fn under_first_a_model_cancels_the_jobs_behind_it(rt: HostRuntime) -> Result<(), Fail> {
+    for case in UNDER_FIRST {
         assert_case(rt.alloc(), &rt, case)?;
     }
     Ok(())
