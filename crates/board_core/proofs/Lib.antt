@@ -20,3 +20,4 @@ pub mod Cancelling
 pub mod Ready
 pub mod Takes
 pub mod WorkedJob
+pub mod EmptyJobs

@@ -11,6 +11,7 @@ use std::process::Abort;
 use std::sync::Arc;
 use std::test::Fail;
 
+mod firsts;
 mod limits;
 mod worked;
 

@@ -6,10 +6,11 @@ use Rattle.std.proofs.lemmas.Bool.{cases_lt, cases_eq}
 use Rattle.std.proofs.lemmas.List.{length-map, get_or-map, length-take-le}
 use Rattle.std.proofs.lemmas.List.Elements.{All-contains}
 use Rattle.sat_base.specs.Lit.{variable, opposite}
-use Rattle.sat_base.proofs.Opposite.{variable-opposite}
+use Rattle.sat_base.proofs.Opposite.{variable-opposite, opposite-opposite}
 use Rattle.trail_core.specs.Trail.{Entry, no_entry, entry_at, lits_of, up_to, StandsAt}
 use Rattle.trail_core.specs.UnderTrail.{IsFalseLit, IsUnassigned, IsFalseClause, IsUnitClause}
 use Rattle.trail_core.specs.UnderTrail.{IsOpenClause, HasOthersFalse}
+use Rattle.propagate.specs.Pairing.{HasFalseAt}
 use Rattle.analyze.specs.Graph.{IsOfLevel}
 use Rattle.analyze.specs.Learnt.{IsAsserting}
 use Rattle.session.proofs.Fronts.{level_at, IsFront, Ascends, front_of, up_to_is, entry_in}
@@ -94,6 +95,30 @@ false_up_to entries lit level low up once of le false_now =
         at : (k < n) ⊎ (n ≤ k) → k < n
         at (inl yes_in) = yes_in
         at (inr beyond) = let h = front.high.each k beyond lt in absurd (omega (arith, h, low))
+
+-- a false literal of a level stays false at it where the trail goes back to that level
+pub false_at : (entries : List Entry) (clause : List ℕ) (lit level : ℕ) → Ascends entries
+    → IsOnce entries → Contains clause lit → IsOfLevel entries lit level
+    → IsFalseLit (lits_of entries) lit → HasFalseAt (up_to level entries) clause level
+false_at entries clause lit level up once has of false_now =
+    let (n, front) = front_of entries level up in
+    let taken = up_to_is entries level n front in
+    let still = false_up_to entries lit level level up once of (omega arith) false_now in
+    let (k, k_lt, k_is) = place_of_true (up_to level entries) (opposite lit) still.stands in
+    let k_in : k < n = omega (arith, k_lt, ap length taken, length-take-le n entries front.within) in
+    let same : entry_at (up_to level entries) k ≡ entry_at entries k = ap
+    (λ (es : List Entry). entry_at es k) taken ∙ entry_in entries n k k_in in
+    let at_k : StandsAt entries (variable lit) k = record {
+      within = omega (arith, k_in, front.within);
+      is = ap (λ (e : Entry). variable e.lit) (sym same) ∙ ap variable k_is ∙ variable-opposite lit;
+    } in
+    let one : k ≡ of.place = once (variable lit) k of.place at_k of.at in
+    record {
+      place = k;
+      within = k_lt;
+      stands = subst (Contains clause) (sym (ap opposite k_is ∙ opposite-opposite lit)) has;
+      is = ap (λ (e : Entry). e.level) same ∙ ap (level_at entries) one ∙ of.is;
+    }
 
 -- below the level that the trail goes back to, two literals are unassigned
 pub open_below : (entries : List Entry) (depth back level : ℕ) (clause : List ℕ) → Ascends entries

@@ -1,7 +1,7 @@
 -- A search that decides.
 use Rattle.std.proofs.Common.{◌≡◌, ◌≢◌, ◌∙◌, ℕ, zero, suc, ◌+◌, ◌-◌, ◌<◌, ◌≤◌, List, [], ◌∷◌, ◌++◌}
 use Rattle.std.proofs.Common.{length, map, true, false, None, refl, ap, sym, subst, inl, inr, arith}
-use Rattle.std.proofs.Common.{get_or, eqb}
+use Rattle.std.proofs.Common.{get_or, eqb, Vec, Global}
 use Rattle.std.specs.Prelude.{◌⊎◌, Contains}
 use Rattle.std.specs.List.{AllByRecursion, IsDistinct, list_any}
 use Rattle.std.proofs.lemmas.Map.Steps.{length-le_from_distinct_below}
@@ -15,10 +15,14 @@ use Rattle.clause_arena.specs.Arena.{lits_of_each}
 use Rattle.analyze.specs.Table.{KnowsUnits}
 use Rattle.session.specs.declared.search.Search.{Search}
 use Rattle.session.specs.OnTrail.{IsOnTrail}
-use Rattle.session.specs.Searching.{IsSearching, AreAllNamed, table_of}
+use Rattle.session.specs.Searching.{IsSearching, IsRoomy, AreAllNamed, table_of}
 use Rattle.session.proofs.Fronts.{level_at}
 use Rattle.session.proofs.OnTrails.{decided_on_trail}
-use Rattle.session.proofs.Cursor.{assigned_more_entries}
+use Rattle.session.specs.declared.search.Cursor.{Cursor}
+use Rattle.session.specs.Cursors.{PassesAssigned}
+use Rattle.session.specs.Watched.{IsSettled}
+use Rattle.session.proofs.Cursor.{assigned_stays, cursors_opened}
+use Rattle.session.proofs.Watching.{watched_as, watched_decided}
 use Rattle.session.proofs.Learnings.{named_push}
 use Rattle.session.proofs.Choices.{same_variable}
 use Rattle.session.proofs.Asserted.{true_at, place_of_true}
@@ -30,29 +34,22 @@ pub all_units : (s : Search) → IsSearching s → AreAllNamed s
 all_units s kept all place lt at_zero = kept.named.known place (all.each place lt at_zero)
 
 -- a decision on a new level
-pub search_decided : (s : Search) (trail : TrailView) (lit : ℕ) → IsSearching s → IsTrail trail
+pub search_decided : (s : Search) (trail : TrailView) (cursors : Vec Cursor Global) (lit : ℕ)
+    → IsSearching s → IsTrail trail
     → IsComplete s.trail.entries s.trail.depth (lits_of_each s.store.clauses) → AreAllNamed s
     → trail.entries ≡ s.trail.entries ++ record {
       lit = lit;
       level = s.trail.depth + 1;
       reason = None;
     } ∷ [] → trail.depth ≡ s.trail.depth + 1 → trail.vars ≡ s.trail.vars
-    → IsSearching (record s { trail = trail })
-search_decided s trail lit kept is complete all entries_are depth_is vars_are = record {
+    → trail.looked ≡ s.trail.looked → cursors.items ≡ s.cursors.items ++ s.cursor ∷ []
+    → IsSettled s.store s.trail
+    → IsSearching (record s { trail = trail; cursors = cursors })
+search_decided s trail cursors lit kept is complete all entries_are depth_is vars_are looked_is opened settled = record {
   stock = kept.stock;
-  room = record {
-    over = kept.room.over;
-    reserved = omega (arith, kept.room.reserved, vars_are);
-    store = omega (arith, kept.room.store, vars_are);
-    scratch = omega (arith, kept.room.scratch, vars_are);
-    units = omega (arith, kept.room.units, vars_are);
-    tags = omega (arith, kept.room.tags, vars_are);
-  };
-  counted = record {
-    greatest = kept.counted.greatest;
-    inputs = kept.counted.inputs;
-    learnt = kept.counted.learnt;
-  };
+  room = subst (λ vars. IsRoomy s.greatest vars s.store s.scratch s.units.items s.tags.items)
+      (sym vars_are) kept.room;
+  counted = kept.counted;
   on = subst (λ (es : List Entry). IsOnTrail (lits_of_each s.store.clauses) es trail.depth)
       (sym entries_are)
       (subst (IsOnTrail (lits_of_each s.store.clauses) (s.trail.entries ++ entry ∷ []))
@@ -60,8 +57,10 @@ search_decided s trail lit kept is complete all entries_are depth_is vars_are = 
       (decided_on_trail (lits_of_each s.store.clauses) s.trail.entries s.trail.depth lit kept.trail.below complete kept.on));
   named = named_push (table_of s) s.trail.entries trail.entries s.units.items s.tags.items s.named entry entries_are kept.named;
   trail = is;
-  cursor = assigned_more_entries s.trail.entries
-      (entry ∷ []) trail.entries s.cursor entries_are kept.cursor;
+  watched = watched_as refl refl entries_are depth_is looked_is
+      (watched_decided s.store.clauses s.store.fresh s.trail.entries s.trail.depth s.trail.looked entry settled.all_looked settled.nothing_new refl kept.watched);
+  levels = omega (arith, ap length opened, length_push s.cursors.items s.cursor, kept.levels, depth_is);
+  cursors = cursors_opened PassesAssigned s.trail trail entry s.cursor s.cursors.items cursors.items assigned_stays kept.trail.below kept.levels entries_are depth_is opened kept.cursors;
   all_named = λ deep place lt bottom. all_at place lt bottom
       (cases_lt place (length s.trail.entries));
 }

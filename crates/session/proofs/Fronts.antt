@@ -110,6 +110,15 @@ up_to_is entries level n front =
     (front.low k k_in)))
     front.high.each
 
+-- the entries up to a level, among those up to a higher one
+pub up_to_twice : (entries : List Entry) (level high : ℕ) → Ascends entries → level ≤ high
+    → up_to level (up_to high entries) ≡ up_to level entries
+up_to_twice entries level high up le =
+    let (n, front) = front_of entries high up in
+    ap (up_to level) (up_to_is entries high n front)
+    ∙ sym (up_to_take entries n level front.within
+    (record { each = λ k from to. let h = front.high.each k from to in omega (arith, h, le) }))
+
 -- entries of a front, and the fronts before them
 pub entry_in : (entries : List Entry) (n k : ℕ) → k < n
     → entry_at (take n entries) k ≡ entry_at entries k

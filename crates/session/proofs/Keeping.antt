@@ -1,11 +1,12 @@
 -- What a search does to its solver, call after call.
 use Rattle.std.proofs.Common.{◌≡◌, ◌∙◌, ℕ, ◌<◌, ◌≤◌, List, [], ◌∷◌, ◌++◌, length, max, Bool, Option}
-use Rattle.std.proofs.Common.{None, Some, ap, sym, subst, arith}
+use Rattle.std.proofs.Common.{None, Some, refl, ap, sym, subst, arith, Vec, Global}
 use Rattle.std.specs.Prelude.{IfSome, IfNone}
 use Rattle.std.proofs.lemmas.List.{append-nil}
 use Rattle.sat_base.specs.Lit.{greatest_of}
 use Rattle.sat_base.specs.Truth.{IsModelOf}
 use Rattle.trail_core.specs.Trail.{TrailView, lits_of}
+use Rattle.session.specs.declared.search.Cursor.{Cursor}
 use Rattle.propagate.specs.Store.{StoreView, HasSameClauses}
 use Rattle.trace_core.specs.Known.{Known}
 use Rattle.session.specs.declared.search.Search.{Search}
@@ -14,7 +15,8 @@ use Rattle.session.specs.declared.rounds.Round.TheVariants.{Model, Refuted, Paus
 use Rattle.session.specs.declared.rounds.Descent.{Descent}
 use Rattle.session.specs.declared.rounds.Descent.TheVariants.{Conflict, Ended}
 use Rattle.session.specs.Fronts.{IsFront}
-use Rattle.session.specs.OnTrail.{AreAssigned, IsForCube}
+use Rattle.session.specs.Cursors.{PassesAssigned, PassesTrue}
+use Rattle.session.specs.Cubes.{IsOnCube}
 use Rattle.session.specs.Solver.{Solver, clauses_of, inputs_of}
 use Rattle.session.specs.Searching.{IsSearching, HasSameVariables, HasStepsMore, HasUnitsMore}
 use Rattle.session.specs.Searching.{solver_of}
@@ -25,6 +27,8 @@ use Rattle.session.specs.Solving.{Concludes, Ends, IsRight, Keeps, Learns, Learn
 use Rattle.session.proofs.SameClauses.{inputs_same, held_same}
 use Rattle.session.proofs.Settled.{front_twice, pairs_of, same_front}
 use Rattle.session.proofs.Steps.{steps_front, units_steps}
+use Rattle.session.proofs.Cursor.{cursors_moved}
+use Rattle.session.proofs.OnCubes.{on_cube_stepped}
 use Rattle.session.proofs.Repeats.{learns_none, learns_then}
 
 -- Learning.
@@ -115,14 +119,13 @@ learns_named s new parts more = learns_steps (solver_of s) (solver_of new) [] (a
 
 -- A round.
 pub round_stays : (old new : Search) (cube : List ℕ) (vars : ℕ) → IsInRound old cube vars
-    → IsSearching new → HasSameVariables old new → IsForCube cube new.trail.entries
-    → IsInRound new cube vars
-round_stays old new cube vars round kept same for_cube = record {
+    → IsSearching new → HasSameVariables old new → IsOnCube cube new → IsInRound new cube vars
+round_stays old new cube vars round kept same on_cube = record {
   kept = kept;
-  for_cube = for_cube;
+  on_cube = on_cube;
   variables = record {
     are = round.variables.are ∙ ap (λ n. max n (greatest_of cube)) (sym same.greatest);
-    reserved = omega (arith, round.variables.reserved, same.vars);
+    low = omega (arith, round.variables.low, same.vars);
     few = round.variables.few;
     set = round.variables.set;
   };
@@ -136,56 +139,59 @@ round_stepped s new cube vars round parts kept =
           (λ (x : Search). x.greatest) parts;
       vars = ap (λ (x : Search). x.trail.vars) parts;
     })
-    (subst (λ (t : TrailView). IsForCube cube t.entries)
-    (sym (ap (λ (x : Search). x.trail) parts)) round.for_cube)
+    (on_cube_stepped cube s new parts round.on_cube)
 
 pub round_decided : (s new : Search) (cube : List ℕ) (vars : ℕ) → IsInRound s cube vars
-    → new ≡ record s { trail = new.trail } → new.trail.vars ≡ s.trail.vars → IsSearching new
-    → IsForCube cube new.trail.entries → IsInRound new cube vars
-round_decided s new cube vars round parts same kept for_cube =
+    → new ≡ record s { trail = new.trail; cursors = new.cursors } → new.trail.vars ≡ s.trail.vars
+    → IsSearching new → IsOnCube cube new → IsInRound new cube vars
+round_decided s new cube vars round parts same kept on_cube =
     round_stays s new cube vars round kept (record {
       greatest = ap
           (λ (x : Search). x.greatest) parts;
       vars = same;
-    }) for_cube
+    }) on_cube
 
-pub search_moved : (s : Search) (cursor : ℕ) → IsSearching s
-    → AreAssigned (lits_of s.trail.entries) cursor → IsSearching (record s { cursor = cursor })
-search_moved s cursor kept assigned = record {
+-- the cursor moves, and cursors may find another place in memory
+pub search_moved : (s : Search) (cursor : Cursor) (cursors : Vec Cursor Global) → IsSearching s
+    → cursors.items ≡ s.cursors.items → PassesAssigned (lits_of s.trail.entries) cursor
+    → IsSearching (record s { cursor = cursor; cursors = cursors })
+search_moved s cursor cursors kept same assigned = record {
   stock = kept.stock;
-  room = record {
-    over = kept.room.over;
-    reserved = kept.room.reserved;
-    store = kept.room.store;
-    scratch = kept.room.scratch;
-    units = kept.room.units;
-    tags = kept.room.tags;
-  };
-  counted = record {
-    greatest = kept.counted.greatest;
-    inputs = kept.counted.inputs;
-    learnt = kept.counted.learnt;
-  };
+  room = kept.room;
+  counted = kept.counted;
   trail = kept.trail;
   on = kept.on;
   named = kept.named;
   all_named = kept.all_named;
-  cursor = assigned;
+  watched = kept.watched;
+  levels = ap length same ∙ kept.levels;
+  cursors = cursors_moved PassesAssigned s.trail s.cursor cursor s.cursors.items cursors.items same assigned kept.cursors;
 }
 
-pub round_moved : (s : Search) (cursor : ℕ) (cube : List ℕ) (vars : ℕ) → IsInRound s cube vars
-    → AreAssigned (lits_of s.trail.entries) cursor
+pub round_moved : (s : Search) (cursor : Cursor) (cube : List ℕ) (vars : ℕ) → IsInRound s cube vars
+    → PassesTrue cube (lits_of s.trail.entries) cursor
+    → PassesAssigned (lits_of s.trail.entries) cursor
     → IsInRound (record s { cursor = cursor }) cube vars
-round_moved s cursor cube vars round assigned = record {
-  kept = search_moved s cursor round.kept assigned;
-  for_cube = round.for_cube;
-  variables = record {
-    are = round.variables.are;
-    reserved = round.variables.reserved;
-    few = round.variables.few;
-    set = round.variables.set;
+round_moved s cursor cube vars round passed assigned = record {
+  kept = search_moved s cursor s.cursors round.kept refl assigned;
+  on_cube = record {
+    decisions = round.on_cube.decisions;
+    cursors = cursors_moved (PassesTrue cube) s.trail s.cursor cursor s.cursors.items s.cursors.items refl passed round.on_cube.cursors;
   };
+  variables = round.variables;
 }
+
+-- the cursor moves, and a decision may come
+pub round_chosen : (s new : Search) (cursor : Cursor) (cube : List ℕ) (vars : ℕ)
+    → IsInRound s cube vars → PassesTrue cube (lits_of s.trail.entries) cursor
+    → PassesAssigned (lits_of s.trail.entries) cursor
+    → new ≡ record s { cursor = cursor; trail = new.trail; cursors = new.cursors }
+    → new.trail.vars ≡ s.trail.vars → IsSearching new
+    → (IsOnCube cube (record s { cursor = cursor }) → IsOnCube cube new) → IsInRound new cube vars
+round_chosen s new cursor cube vars round passed assigned parts same kept on_cube =
+    let moved = round_moved s cursor cube vars round passed assigned in
+    round_decided (record s { cursor = cursor }) new cube vars moved parts same kept
+    (on_cube moved.on_cube)
 
 -- a step came behind those that were there
 pub keeps_stepped : (s new : Search) → new ≡ record s { steps = new.steps }
@@ -206,7 +212,7 @@ pub keeps_itself : (solver : Solver) → Keeps solver solver
 keeps_itself solver = learns_keeps solver solver [] [] (learns_none solver)
 
 -- decisions change no solver
-pub learns_decided : (s new : Search) → new ≡ record s { trail = new.trail }
+pub learns_decided : (s new : Search) → new ≡ record s { trail = new.trail; cursors = new.cursors }
     → Learns (solver_of s) (solver_of new) [] []
 learns_decided s new parts = subst (λ (solver : Solver). Learns (solver_of s) solver [] [])
     (sym (ap solver_of parts)) (learns_none (solver_of s))

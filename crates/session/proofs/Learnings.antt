@@ -1,7 +1,7 @@
 -- A search that learns a clause.
 use Rattle.std.proofs.Common.{◌≡◌, ◌∙◌, ℕ, ◌+◌, ◌<◌, ◌≤◌, List, [], ◌∷◌, ◌++◌, length, map, take}
 use Rattle.std.proofs.Common.{Bool, true, false, Option, None, Some, refl, ap, sym, subst, inl, inr}
-use Rattle.std.proofs.Common.{arith, Vec, Global}
+use Rattle.std.proofs.Common.{arith, Vec, Global, min}
 use Rattle.std.specs.Prelude.{◌⊎◌, All, Contains, IsTrue, nat_le, cond}
 use Rattle.std.proofs.lemmas.Bool.{cases_lt, cases_eq, le-leb, leb-true}
 use Rattle.std.proofs.lemmas.List.{length_push, length-map, map_push, length-take-le, get_or_push}
@@ -32,20 +32,26 @@ use Rattle.session.specs.Stock.{IsStocked}
 use Rattle.sat_base.proofs.InOrder.{in_order-itself}
 use Rattle.session.specs.OnTrail.{IsOnTrail}
 use Rattle.session.specs.Units.{IsNamed}
-use Rattle.session.specs.Searching.{IsSearching, packets_of, solver_of, table_of}
+use Rattle.session.specs.Searching.{IsSearching, IsRoomy, IsCounted, IsHeldStep, packets_of}
+use Rattle.session.specs.Searching.{solver_of, table_of}
 use Rattle.session.specs.declared.conflicts.Lesson.{Lesson}
 use Rattle.session.specs.Lessons.{IsLesson}
 use Rattle.session.specs.Solving.{IsProperOver, LearnsOne}
 use Rattle.session.proofs.Lists.{All-push, All-under}
 use Rattle.trace_core.proofs.Items.{item_at-last}
 use Rattle.session.proofs.UpTo.{below_greatest, greatest_within}
-use Rattle.session.proofs.Stocked.{stock_learnt, inputs_learnt}
-use Rattle.session.proofs.Fronts.{level_at, IsFront, Ascends, front_of, up_to_is, up_to_take}
+use Rattle.session.proofs.Stocked.{stock_learnt, inputs_beside}
+use Rattle.session.proofs.Fronts.{level_at, IsFront, Ascends, front_of, up_to_is, up_to_twice}
 use Rattle.session.proofs.Fronts.{entry_in}
 use Rattle.session.proofs.OnTrails.{back_on_trail, more_on_trail, forced_on_trail}
-use Rattle.session.proofs.Asserted.{IsOnce, open_below, forces}
-use Rattle.session.proofs.Searches.{name_of_clause}
-use Rattle.session.proofs.Cursor.{none_assigned, assigned_more_entries}
+use Rattle.session.proofs.Asserted.{IsOnce, open_below, forces, unassigned_above, false_at}
+use Rattle.session.proofs.Watching.{watched_as, watched_back, watched_taught}
+use Rattle.propagate.specs.Pairing.{IsReady}
+use Rattle.analyze.specs.Graph.{IsOfLevel}
+use Rattle.session.proofs.Searches.{name_of_clause, counted_beside}
+use Rattle.session.specs.declared.search.Cursor.{Cursor}
+use Rattle.session.specs.Cursors.{PassesAssigned, cursor_at}
+use Rattle.session.proofs.Cursor.{assigned_stays, cursors_more, cursors_back}
 use Rattle.session.proofs.Steps.{pushed_steps}
 use Rattle.session.proofs.Learning.{contains_none}
 
@@ -68,11 +74,14 @@ false_proper trail clause is all both =
     (opposite-opposite both.lit) b.stands) a.stands
 
 -- a jump back
-pub search_back : (s : Search) (trail : TrailView) (level : ℕ) → IsSearching s → IsTrail trail
-    → level ≤ s.trail.depth → 0 < s.trail.depth
+pub search_back : (s : Search) (trail : TrailView) (level : ℕ) (cursor : Cursor)
+    (cursors : Vec Cursor Global) → IsSearching s → IsTrail trail → level < s.trail.depth
     → trail.entries ≡ up_to level s.trail.entries → trail.depth ≡ level → trail.vars ≡ s.trail.vars
-    → IsSearching (record s { trail = trail; cursor = 0 })
-search_back s trail level kept is le deep entries_are depth_is vars_are =
+    → trail.looked ≡ min s.trail.looked (length trail.entries)
+    → cursor ≡ cursor_at s.cursors.items level → cursors.items ≡ take level s.cursors.items
+    → (0 < level → s.store.fresh ≡ [])
+    → IsSearching (record s { trail = trail; cursor = cursor; cursors = cursors })
+search_back s trail level cursor cursors kept is deep entries_are depth_is vars_are looked_is cursor_is cursors_are none =
     let (n, front) = front_of s.trail.entries level kept.trail.ascending in
     let taken : trail.entries ≡ take n s.trail.entries = entries_are
     ∙ up_to_is s.trail.entries level n front in
@@ -85,25 +94,14 @@ search_back s trail level kept is le deep entries_are depth_is vars_are =
     (λ (es : List Entry). entry_at es place) taken ∙ entry_in s.trail.entries n place lt in
     record {
       stock = kept.stock;
-      room = record {
-        over = kept.room.over;
-        reserved = omega
-            (arith, kept.room.reserved, vars_are);
-        store = omega (arith, kept.room.store, vars_are);
-        scratch = omega (arith, kept.room.scratch, vars_are);
-        units = omega (arith, kept.room.units, vars_are);
-        tags = omega (arith, kept.room.tags, vars_are);
-      };
-      counted = record {
-        greatest = kept.counted.greatest;
-        inputs = kept.counted.inputs;
-        learnt = kept.counted.learnt;
-      };
+      room = subst (λ vars. IsRoomy s.greatest vars s.store s.scratch s.units.items s.tags.items)
+      (sym vars_are) kept.room;
+      counted = kept.counted;
       on = subst (λ (es : List Entry). IsOnTrail (lits_of_each s.store.clauses) es trail.depth)
           (sym entries_are)
           (subst (IsOnTrail (lits_of_each s.store.clauses) (up_to level s.trail.entries))
           (sym depth_is) (back_on_trail
-          (lits_of_each s.store.clauses) s.trail.entries s.trail.depth level kept.trail.ascending le kept.on));
+          (lits_of_each s.store.clauses) s.trail.entries s.trail.depth level kept.trail.ascending (omega (arith, deep)) kept.on));
       named = record {
         within = omega (arith, size, within n front all_in);
         zero = λ place lt. ap (λ (e : Entry). e.level) (same place (all_in place lt))
@@ -114,9 +112,15 @@ search_back s trail level kept is le deep entries_are depth_is vars_are =
             (kept.named.known place lt);
       };
       trail = is;
-      cursor = none_assigned (lits_of trail.entries);
+      watched = watched_as refl refl entries_are depth_is
+          (looked_is ∙ ap (λ (es : List Entry). min s.trail.looked (length es)) entries_are)
+          (watched_back s.store.clauses s.store.fresh s.trail level kept.trail
+          (omega (arith, deep)) none kept.watched);
+      levels = ap length cursors_are
+          ∙ length-take-le level s.cursors.items (omega (arith, deep, kept.levels)) ∙ sym depth_is;
+      cursors = cursors_back PassesAssigned s.trail trail level s.cursor cursor s.cursors.items cursors.items kept.trail.ascending deep entries_are depth_is cursor_is cursors_are kept.cursors;
       all_named = λ _ place lt zero. (let place_in : place < n = omega (arith, lt, size) in
-          kept.all_named deep place (omega (arith, place_in, front.within))
+          kept.all_named (omega (arith, deep)) place (omega (arith, place_in, front.within))
           (ap (λ (e : Entry). e.level) (sym (same place place_in)) ∙ zero));
     }
   where
@@ -153,165 +157,113 @@ named_push table entries entries' units tags n entry are named =
           (named.known place lt);
     }
 
--- A learnt clause comes to be held.
-pub search_added : (s : Search) (store : StoreView) (step : Step) (number : ℕ) → IsSearching s
-    → store.clauses ≡ s.store.clauses ++ record {
-      lits = step.clause;
-      tag = step.tag;
-      origin = Own number;
-    } ∷ [] → store.vars ≡ s.store.vars
-    → IsStep s.steps.items number (known_of step) → All IsLit step.clause
-    → IsTrue (is_ascending step.clause) → AreWithin s.greatest step.clause
-    → ((level : ℕ) → level < s.trail.depth → IsOpenClause
-    (lits_of (up_to level s.trail.entries)) step.clause)
-    → IsSearching (record s { store = store })
-search_added s store step number kept added vars_are is lits ascending within is_open = record {
-  stock = subst (λ clauses. IsStocked clauses (packets_of s) s.steps.items s.bound) (sym added)
-      (stock_learnt s.store.clauses
-      (packets_of s) s.steps.items s.bound step number kept.stock is lits ascending);
-  room = record {
-    over = subst (λ clauses. AreAllWithin s.greatest clauses) (sym added)
-        (All-push (λ (clause : ArenaClause). AreWithin s.greatest clause.lits) s.store.clauses learnt kept.room.over within);
-    reserved = kept.room.reserved;
-    store = omega (arith, kept.room.store, vars_are);
-    scratch = kept.room.scratch;
-    units = kept.room.units;
-    tags = kept.room.tags;
-  };
-  counted = record {
-    greatest = kept.counted.greatest ∙ ap (λ inputs. greatest_of_all (clauses_of inputs))
-        (sym inputs);
-    inputs = kept.counted.inputs ∙ ap length (sym inputs);
-    learnt = subst (λ held. All (λ number. (one : Known) × IsStep s.steps.items number one
-        × Contains held one) s.learnt.items) (sym held)
-        (All-under (λ number. (one : Known) × IsStep s.steps.items number one
-        × Contains (held_of s.store.clauses) one)
-        (λ number. (one : Known) × IsStep s.steps.items number one
-        × Contains (held_of s.store.clauses ++ known_clause learnt ∷ []) one) s.learnt.items
-        (λ n (one, named, there). (
-          one,
-          named,
-          Contains-append_left (held_of s.store.clauses)
-              (known_clause learnt ∷ []) one there,
-        )) kept.counted.learnt);
-  };
-  on = subst (λ lits. IsOnTrail lits s.trail.entries s.trail.depth)
-      (sym (ap lits_of_each added
-      ∙ map_push (λ (clause : ArenaClause). clause.lits) s.store.clauses learnt))
-      (more_on_trail (lits_of_each s.store.clauses) step.clause s.trail.entries s.trail.depth is_open kept.on);
-  named = subst (λ inputs. IsNamed (named_by inputs
-      (packets_of s) s.steps.items) s.trail.entries s.units.items s.tags.items s.named)
-      (sym inputs) kept.named;
-  trail = kept.trail;
-  cursor = kept.cursor;
-  all_named = kept.all_named;
-}
-  where
-    learnt : ArenaClause
-    learnt = record { lits = step.clause; tag = step.tag; origin = Own number }
-
-    inputs : inputs_of store.clauses ≡ inputs_of s.store.clauses
-    inputs = ap inputs_of added ∙ inputs_learnt s.store.clauses step.clause step.tag number
-
-    held : held_of store.clauses ≡ held_of s.store.clauses ++ known_clause learnt ∷ []
-    held = ap held_of added ∙ map_push known_clause s.store.clauses learnt
-
 pub known_learnt : (step : Step) (number : ℕ) → IsTrue (is_ascending step.clause)
     → known_clause (record { lits = step.clause; tag = step.tag; origin = Own number })
     ≡ known_of step
 known_learnt step number ascending = ap (λ lits. record { clause = lits; tag = step.tag })
     (in_order-itself step.clause ascending)
 
--- Its step is listed.
-pub search_listed : (s : Search) (learnt : Vec ℕ Global) (number : ℕ) (one : Known) → IsSearching s
-    → learnt.items ≡ s.learnt.items ++ number ∷ [] → IsStep s.steps.items number one
-    → Contains (held_of s.store.clauses) one
-    → IsSearching (record s { learnt = learnt })
-search_listed s learnt number one kept listed is held = record {
-  stock = kept.stock;
-  room = record {
-    over = kept.room.over;
-    reserved = kept.room.reserved;
-    store = kept.room.store;
-    scratch = kept.room.scratch;
-    units = kept.room.units;
-    tags = kept.room.tags;
-  };
-  counted = record {
-    greatest = kept.counted.greatest;
-    inputs = kept.counted.inputs;
-    learnt = subst (λ numbers. All (λ n. (x : Known) × IsStep s.steps.items n x
-        × Contains (held_of s.store.clauses) x) numbers) (sym listed)
-        (All-push (λ n. (x : Known) × IsStep s.steps.items n x
-        × Contains (held_of s.store.clauses) x) s.learnt.items number kept.counted.learnt
-        (one, is, held));
-  };
-  on = kept.on;
-  named = kept.named;
-  trail = kept.trail;
-  cursor = kept.cursor;
-  all_named = kept.all_named;
-}
+pub is_held : (held held' : List Known) (one : Known) → held' ≡ held ++ one ∷ []
+    → Contains held' one
+is_held held held' one is = subst (λ (xs : List Known). Contains xs one) (sym is)
+    (Contains-append_right held (one ∷ []) one (Contains-here one []))
 
-pub search_unlisted : (s : Search) (learnt : Vec ℕ Global) → IsSearching s
-    → learnt.items ≡ s.learnt.items → IsSearching (record s { learnt = learnt })
-search_unlisted s learnt kept same = record {
-  stock = kept.stock;
+-- A learnt clause comes to be held, its step is listed, and its literal becomes true.
+pub search_taught : (s : Search) (store : StoreView) (trail : TrailView) (learnt : Vec ℕ Global)
+    (step : Step) (number id lit : ℕ) → IsSearching s
+    → store.clauses ≡ s.store.clauses ++ record {
+      lits = step.clause;
+      tag = step.tag;
+      origin = Own number;
+    } ∷ [] → store.fresh ≡ s.store.fresh ++ length s.store.clauses ∷ []
+    → store.vars ≡ s.store.vars → learnt.items ≡ s.learnt.items ++ number ∷ []
+    → trail.entries ≡ s.trail.entries ++ record {
+      lit = lit;
+      level = s.trail.depth;
+      reason = Some id;
+    } ∷ [] → trail.depth ≡ s.trail.depth → trail.vars ≡ s.trail.vars
+    → trail.looked ≡ s.trail.looked → IsTrail trail → id ≡ length s.store.clauses
+    → IsStep s.steps.items number (known_of step) → IsLitSet step.clause
+    → AreWithin s.greatest step.clause
+    → ((level : ℕ) → level < s.trail.depth → IsOpenClause
+    (lits_of (up_to level s.trail.entries)) step.clause)
+    → HasOthersFalse (lits_of s.trail.entries) step.clause lit
+    → IsReady s.trail.entries s.trail.depth step.clause
+    → (0 < s.trail.depth → s.store.fresh ≡ [])
+    → IsSearching (record s { store = store; trail = trail; learnt = learnt })
+search_taught s store trail learnt step number id lit kept added fresh_is store_vars listed entries_are depth_is vars_are looked_is is_trail id_is is set within is_open others ready none = record {
+  stock = subst (λ clauses. IsStocked clauses (packets_of s) s.steps.items s.bound) (sym added)
+      (stock_learnt s.store.clauses
+      (packets_of s) s.steps.items s.bound step number kept.stock is set.each set.ascending);
   room = record {
-    over = kept.room.over;
-    reserved = kept.room.reserved;
-    store = kept.room.store;
-    scratch = kept.room.scratch;
-    units = kept.room.units;
-    tags = kept.room.tags;
-  };
-  counted = record {
-    greatest = kept.counted.greatest;
-    inputs = kept.counted.inputs;
-    learnt = subst (λ numbers. All (λ n. (x : Known) × IsStep s.steps.items n x
-        × Contains (held_of s.store.clauses) x) numbers) (sym same) kept.counted.learnt;
-  };
-  on = kept.on;
-  named = kept.named;
-  trail = kept.trail;
-  cursor = kept.cursor;
-  all_named = kept.all_named;
-}
-
--- Its literal becomes true.
-pub search_assigned : (s : Search) (trail : TrailView) (entry : Entry) → IsSearching s
-    → trail.entries ≡ s.trail.entries ++ entry ∷ [] → trail.depth ≡ s.trail.depth
-    → trail.vars ≡ s.trail.vars → entry.level ≡ s.trail.depth
-    → IsForced (lits_of_each s.store.clauses) s.trail.entries entry → IsTrail trail
-    → IsSearching (record s { trail = trail })
-search_assigned s trail entry kept entries_are depth_is vars_are level forced is = record {
-  stock = kept.stock;
-  room = record {
-    over = kept.room.over;
+    over = subst (λ clauses. AreAllWithin s.greatest clauses) (sym added)
+        (All-push (λ (clause : ArenaClause). AreWithin s.greatest clause.lits) s.store.clauses clause kept.room.over within);
     reserved = omega (arith, kept.room.reserved, vars_are);
-    store = omega (arith, kept.room.store, vars_are);
-    scratch = omega (arith, kept.room.scratch, vars_are);
-    units = omega (arith, kept.room.units, vars_are);
-    tags = omega (arith, kept.room.tags, vars_are);
+    in_store = omega (arith, kept.room.in_store, vars_are, store_vars);
+    in_scratch = omega (arith, kept.room.in_scratch, vars_are);
+    in_units = omega (arith, kept.room.in_units, vars_are);
+    in_tags = omega (arith, kept.room.in_tags, vars_are);
   };
-  counted = record {
-    greatest = kept.counted.greatest;
-    inputs = kept.counted.inputs;
-    learnt = kept.counted.learnt;
-  };
-  on = subst (λ (es : List Entry). IsOnTrail (lits_of_each s.store.clauses) es trail.depth)
+  counted = subst (IsCounted store.clauses s.greatest s.inputs s.steps.items) (sym listed) (record {
+    greatest_is = counted.greatest_is;
+    inputs_are = counted.inputs_are;
+    learnt_held = All-push (IsHeldStep s.steps.items (held_of store.clauses)) s.learnt.items number counted.learnt_held
+        (known_of step, is, is_held (held_of s.store.clauses) (held_of store.clauses) (known_of step)
+        (held ∙ ap (λ one. held_of s.store.clauses ++ one ∷ []) (known_learnt step number set.ascending)));
+  });
+  on = subst (λ (es : List Entry). IsOnTrail (lits_of_each store.clauses) es trail.depth)
       (sym entries_are)
-      (subst (IsOnTrail (lits_of_each s.store.clauses) (s.trail.entries ++ entry ∷ []))
+      (subst (IsOnTrail (lits_of_each store.clauses) (s.trail.entries ++ entry ∷ []))
       (sym depth_is) (forced_on_trail
-      (lits_of_each s.store.clauses) s.trail.entries s.trail.depth entry kept.on forced level));
-  named = named_push (table_of s) s.trail.entries trail.entries s.units.items s.tags.items s.named entry entries_are kept.named;
-  trail = is;
-  cursor = assigned_more_entries s.trail.entries
-      (entry ∷ []) trail.entries s.cursor entries_are kept.cursor;
+      (lits_of_each store.clauses) s.trail.entries s.trail.depth entry on_added forced refl));
+  named = subst (λ inputs. IsNamed (named_by inputs
+      (packets_of s) s.steps.items) trail.entries s.units.items s.tags.items s.named)
+      (sym inputs)
+      (named_push (table_of s) s.trail.entries trail.entries s.units.items s.tags.items s.named entry entries_are kept.named);
+  trail = is_trail;
+  watched = watched_as added fresh_is entries_are depth_is looked_is
+      (watched_taught s.store.clauses s.store.fresh s.trail.entries s.trail.depth s.trail.looked clause entry kept.trail.looked_at refl ready others.stands none kept.watched);
+  levels = kept.levels ∙ sym depth_is;
+  cursors = cursors_more PassesAssigned s.trail trail (entry ∷ []) s.cursor s.cursors.items assigned_stays entries_are depth_is kept.cursors;
   all_named = λ deep place lt zero. all_at deep place lt zero
       (cases_lt place (length s.trail.entries));
 }
   where
+    clause : ArenaClause
+    clause = record { lits = step.clause; tag = step.tag; origin = Own number }
+
+    entry : Entry
+    entry = record { lit = lit; level = s.trail.depth; reason = Some id }
+
+    inputs : inputs_of store.clauses ≡ inputs_of s.store.clauses
+    inputs = ap inputs_of added ∙ inputs_beside s.store.clauses clause refl
+
+    held : held_of store.clauses ≡ held_of s.store.clauses ++ known_clause clause ∷ []
+    held = ap held_of added ∙ map_push known_clause s.store.clauses clause
+
+    counted : IsCounted store.clauses s.greatest s.inputs s.steps.items s.learnt.items
+    counted = counted_beside s.store.clauses store.clauses s.greatest s.inputs s.steps.items s.learnt.items
+        (known_clause clause ∷ []) inputs held kept.counted
+
+    on_added : IsOnTrail (lits_of_each store.clauses) s.trail.entries s.trail.depth
+    on_added = subst (λ lits. IsOnTrail lits s.trail.entries s.trail.depth)
+        (sym (ap lits_of_each added
+        ∙ map_push (λ (clause : ArenaClause). clause.lits) s.store.clauses clause))
+        (more_on_trail (lits_of_each s.store.clauses) step.clause s.trail.entries s.trail.depth is_open kept.on)
+
+    forced : IsForced (lits_of_each store.clauses) s.trail.entries entry
+    forced = record {
+      id = id;
+      reason = refl;
+      known = omega (arith, id_is, ap length added, length_push s.store.clauses clause, length-lits_of_each store.clauses);
+      rest = subst (λ (lits : List ℕ). HasOthersFalse (lits_of s.trail.entries) lits lit)
+          (sym (lits_at-each store.clauses id
+          (omega (arith, id_is, ap length added, length_push s.store.clauses clause))
+          ∙ ap (λ (cs : List ArenaClause). (clause_at cs id).lits) added
+          ∙ ap (λ (one : ArenaClause). one.lits) (get_or_push s.store.clauses clause no_clause id
+          (sym id_is)))) others;
+    }
+
     size : length trail.entries ≡ length s.trail.entries + 1
     size = ap length entries_are ∙ length_push s.trail.entries entry
 
@@ -329,7 +281,22 @@ search_assigned s trail entry kept entries_are depth_is vars_are level forced is
         (λ (es : List Entry). level_at es place) entries_are
         ∙ ap (λ (e : Entry). e.level) (get_or_push s.trail.entries entry no_entry place
         (sym last)) in
-        absurd (omega (arith, here, zero, level, deep, depth_is))
+        absurd (omega (arith, here, zero, deep, depth_is))
+
+pub search_unlisted : (s : Search) (learnt : Vec ℕ Global) → IsSearching s
+    → learnt.items ≡ s.learnt.items → IsSearching (record s { learnt = learnt })
+search_unlisted s learnt kept same = record {
+  stock = kept.stock;
+  room = kept.room;
+  counted = subst (IsCounted s.store.clauses s.greatest s.inputs s.steps.items) (sym same) kept.counted;
+  on = kept.on;
+  named = kept.named;
+  trail = kept.trail;
+  watched = kept.watched;
+  levels = kept.levels;
+  cursors = kept.cursors;
+  all_named = kept.all_named;
+}
 
 -- Variables of clauses.
 -- the table without clauses of greater variables
@@ -456,20 +423,6 @@ held_last clauses clauses' step number added ascending =
     (record { lits = step.clause; tag = step.tag; origin = Own number })
     ∙ ap (λ one. held_of clauses ++ one ∷ []) (known_learnt step number ascending)
 
-pub is_held : (held held' : List Known) (one : Known) → held' ≡ held ++ one ∷ []
-    → Contains held' one
-is_held held held' one is = subst (λ (xs : List Known). Contains xs one) (sym is)
-    (Contains-append_right held (one ∷ []) one (Contains-here one []))
-
--- the entries up to a level, among those up to a higher one
-pub up_to_twice : (entries : List Entry) (level high : ℕ) → Ascends entries → level ≤ high
-    → up_to level (up_to high entries) ≡ up_to level entries
-up_to_twice entries level high up le =
-    let (n, front) = front_of entries high up in
-    ap (up_to level) (up_to_is entries high n front)
-    ∙ sym (up_to_take entries n level front.within
-    (record { each = λ k from to. let h = front.high.each k from to in omega (arith, h, le) }))
-
 -- a lesson's clause is open below the level to which the trail went back
 pub lesson_open : (s : Search) (lesson : Lesson) (trail : TrailView) → IsTrail s.trail
     → IsLesson s lesson → trail.entries ≡ up_to lesson.back s.trail.entries
@@ -483,35 +436,38 @@ lesson_open s lesson trail is l entries_are depth_is level lt =
     (open_below s.trail.entries s.trail.depth lesson.back level lesson.clause is.ascending is.once l.asserting (omega (arith, lt, depth_is)))
 
 -- its literal is forced
-pub lesson_forces : (s : Search) (lesson : Lesson) (trail : TrailView) (clauses : List ArenaClause)
-    (number id lit : ℕ) → IsTrail s.trail → IsLesson s lesson
-    → trail.entries ≡ up_to lesson.back s.trail.entries
-    → clauses ≡ s.store.clauses ++ record {
-      lits = lesson.clause;
-      tag = lesson.step.tag;
-      origin = Own number;
-    } ∷ [] → id ≡ length s.store.clauses
+pub lesson_forces : (s : Search) (lesson : Lesson) (trail : TrailView) (lit : ℕ) → IsTrail s.trail
+    → IsLesson s lesson → trail.entries ≡ up_to lesson.back s.trail.entries
     → Contains lesson.clause lit → IsUnassigned (lits_of trail.entries) lit
-    → IsForced (lits_of_each clauses) trail.entries
-    (record { lit = lit; level = trail.depth; reason = Some id })
-lesson_forces s lesson trail clauses number id lit is l entries_are clauses_are id_is has free = record {
-  id = id;
-  reason = refl;
-  known = omega (arith, id_is, ap length clauses_are, length_push s.store.clauses learnt, length-lits_of_each clauses);
-  rest = subst (λ (lits : List ℕ). HasOthersFalse (lits_of trail.entries) lits lit) (sym read)
-      (subst (λ (es : List Entry). HasOthersFalse (lits_of es) lesson.clause lit) (sym entries_are)
-      (learnt_forces s.trail.entries s.trail.depth lesson.back lesson.clause lit is.ascending is.once l.asserting l.refuted has (subst (λ (es : List Entry). IsUnassigned (lits_of es) lit) entries_are free)));
-}
-  where
-    learnt : ArenaClause
-    learnt = record { lits = lesson.clause; tag = lesson.step.tag; origin = Own number }
+    → HasOthersFalse (lits_of trail.entries) lesson.clause lit
+lesson_forces s lesson trail lit is l entries_are has free =
+    subst (λ (es : List Entry). HasOthersFalse (lits_of es) lesson.clause lit) (sym entries_are)
+    (learnt_forces s.trail.entries s.trail.depth lesson.back lesson.clause lit is.ascending is.once l.asserting l.refuted has (subst (λ (es : List Entry). IsUnassigned (lits_of es) lit) entries_are free))
 
-    read : lits_at (lits_of_each clauses) id ≡ lesson.clause
-    read = lits_at-each clauses id
-        (omega (arith, id_is, ap length clauses_are, length_push s.store.clauses learnt))
-        ∙ ap (λ (cs : List ArenaClause). (clause_at cs id).lits) clauses_are
-        ∙ ap (λ (one : ArenaClause). one.lits) (get_or_push s.store.clauses learnt no_clause id
-        (sym id_is))
+-- it is ready to be watched
+pub lesson_ready : (s : Search) (lesson : Lesson) (trail : TrailView) → IsTrail s.trail
+    → IsLesson s lesson → trail.entries ≡ up_to lesson.back s.trail.entries
+    → trail.depth ≡ lesson.back → IsReady trail.entries trail.depth lesson.clause
+lesson_ready s lesson trail is l entries_are depth_is =
+    subst (λ (es : List Entry). IsReady es trail.depth lesson.clause) (sym entries_are)
+    (subst (λ n. IsReady (up_to lesson.back s.trail.entries) n lesson.clause) (sym depth_is)
+    (at l.asserting.reached))
+  where
+    at : (lesson.back ≡ 0) ⊎ ((other : ℕ) × Contains lesson.clause other
+        × IsOfLevel s.trail.entries other lesson.back)
+        → IsReady (up_to lesson.back s.trail.entries) lesson.back lesson.clause
+    at (inl none) = inr (inr none)
+    at (inr (other, stands, of)) = inr (inl (false_at s.trail.entries lesson.clause other lesson.back is.ascending is.once stands of
+        (All-contains (IsFalseLit (lits_of s.trail.entries)) lesson.clause other l.refuted.each stands)))
+
+-- one of its literals is unassigned
+pub lesson_free : (s : Search) (lesson : Lesson) (trail : TrailView) → IsTrail s.trail
+    → IsLesson s lesson → trail.entries ≡ up_to lesson.back s.trail.entries
+    → ((lit : ℕ) → Contains lesson.clause lit → IsUnassigned (lits_of trail.entries) lit → ⊥) → ⊥
+lesson_free s lesson trail is l entries_are none =
+    none l.asserting.lit l.asserting.stands
+    (subst (λ (es : List Entry). IsUnassigned (lits_of es) l.asserting.lit) (sym entries_are)
+    (unassigned_above s.trail.entries l.asserting.lit lesson.back s.trail.depth is.ascending is.once l.asserting.present l.asserting.below))
 
 pub learnt_one : (old s : Search) (l : Lesson) (number : ℕ) → IsSearching old → IsLesson old l
     → IsLitSet l.clause → s.steps.items ≡ old.steps.items ++ l.step ∷ []
@@ -525,7 +481,8 @@ pub learnt_one : (old s : Search) (l : Lesson) (number : ℕ) → IsSearching ol
 learnt_one old s l number kept lesson set pushed last listed added bound packets = record {
   one = known_of l.step;
   learns = record {
-    inputs = ap inputs_of added ∙ inputs_learnt old.store.clauses l.clause l.step.tag number;
+    inputs = ap inputs_of added ∙ inputs_beside old.store.clauses
+        (record { lits = l.clause; tag = l.step.tag; origin = Own number }) refl;
     bound = bound;
     packets = packets;
     held = held_last old.store.clauses s.store.clauses l.step number
@@ -565,32 +522,31 @@ learnt_one old s l number kept lesson set pushed last listed added bound packets
         (λ lits. greatest_of lits ≤ old.greatest) (sym lesson.of)
         (greatest_within l.clause old.greatest (λ lit has. All-contains
         (λ x. variable x ≤ old.greatest) l.clause lit lesson.within has)) in
-        omega (arith, low, kept.counted.greatest)
+        omega (arith, low, kept.counted.greatest_is)
 
 -- the lesson is learnt, call after call
-pub lesson_learnt : (old p b h new : Search) (l : Lesson) (number : ℕ) → IsSearching old
+pub lesson_learnt : (old p b h : Search) (l : Lesson) (number : ℕ) → IsSearching old
     → IsLesson old l → IsLitSet l.clause
     → p ≡ record old { steps = p.steps } → p.steps.items ≡ old.steps.items ++ l.step ∷ []
     → number ≡ length p.steps.items
-    → b ≡ record p { trail = b.trail; cursor = 0 }
-    → h ≡ record b { store = h.store; learnt = h.learnt }
+    → b ≡ record p { trail = b.trail; cursor = b.cursor; cursors = b.cursors }
+    → h ≡ record b { store = h.store; trail = h.trail; learnt = h.learnt }
     → h.store.clauses ≡ b.store.clauses ++ record {
       lits = l.clause;
       tag = l.step.tag;
       origin = Own number;
     } ∷ [] → h.learnt.items ≡ b.learnt.items ++ number ∷ []
-    → solver_of new ≡ solver_of h → LearnsOne (solver_of old) (solver_of new)
-lesson_learnt old p b h new l number kept lesson set stepped pushed last back held added listed same =
-    subst (LearnsOne (solver_of old)) (sym same)
-    (learnt_one old h l number kept lesson set
+    → LearnsOne (solver_of old) (solver_of h)
+lesson_learnt old p b h l number kept lesson set stepped pushed last back held added listed =
+    learnt_one old h l number kept lesson set
     (ap (λ (x : Search). x.steps.items) held ∙ ap (λ (x : Search). x.steps.items) back ∙ pushed)
     (last ∙ ap (λ (x : Search). length x.steps.items) (sym back)
     ∙ ap (λ (x : Search). length x.steps.items) (sym held))
     (listed ∙ ap (λ (x : Search). x.learnt.items ++ number ∷ [])
-    (back ∙ ap (λ (x : Search). record x { trail = b.trail; cursor = 0 }) stepped))
+    (back ∙ ap (λ (x : Search). record x { trail = b.trail; cursor = b.cursor; cursors = b.cursors }) stepped))
     (added ∙ ap (λ (x : Search). x.store.clauses
     ++ record { lits = l.clause; tag = l.step.tag; origin = Own number } ∷ [])
-    (back ∙ ap (λ (x : Search). record x { trail = b.trail; cursor = 0 }) stepped))
+    (back ∙ ap (λ (x : Search). record x { trail = b.trail; cursor = b.cursor; cursors = b.cursors }) stepped))
     (ap (λ (x : Search). x.bound) held ∙ ap (λ (x : Search). x.bound) back
     ∙ ap (λ (x : Search). x.bound) stepped)
-    (ap packets_of held ∙ ap packets_of back ∙ ap packets_of stepped))
+    (ap packets_of held ∙ ap packets_of back ∙ ap packets_of stepped)

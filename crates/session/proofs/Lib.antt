@@ -7,6 +7,8 @@ pub mod Fronts
 pub mod Forcing
 pub mod OnTrails
 pub mod Cursor
+pub mod OnCubes
+pub mod Watching
 pub mod Asserted
 pub mod UnitSteps
 pub mod Reasons

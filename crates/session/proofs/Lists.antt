@@ -1,7 +1,7 @@
 -- Lists of items that all keep something, and the greatest of numbers.
-use Rattle.std.proofs.Common.{◌≡◌, ◌∙◌, ℕ, ◌<◌, ◌≤◌, List, [], ◌∷◌, ◌++◌, length, map, refl, ap, sym}
-use Rattle.std.proofs.Common.{subst, inl, inr, arith, get_or}
-use Rattle.std.specs.Prelude.{◌⊎◌, All, Contains, max}
+use Rattle.std.proofs.Common.{◌≡◌, ◌≢◌, ◌∙◌, ℕ, zero, suc, ◌<◌, ◌≤◌, List, [], ◌∷◌, ◌++◌, length}
+use Rattle.std.proofs.Common.{map, set, Some, refl, ap, sym, subst, inl, inr, arith, get_or}
+use Rattle.std.specs.Prelude.{◌⊎◌, All, Contains, max, Result, Ok, Err, OnOk, slice_get}
 use Rattle.std.proofs.lemmas.List.{get_or_push, get_or_append_left, length_push}
 use Rattle.std.proofs.lemmas.Bool.{cases_lt}
 use Rattle.sat_base.proofs.Members.{Contains-here, Contains-there}
@@ -38,3 +38,25 @@ greatest_below (n ∷ numbers) bound each =
     let first = each n (Contains-here n numbers) in
     let rest = greatest_below numbers bound (λ m has. each m (Contains-there n m numbers has)) in
     omega (arith, first, rest)
+
+-- what comes of two things that hold after an Ok
+pub both_ok : {T E : Type 0} (result : Result T E) (P Q R : Type 0) → (P → Q → R) → OnOk result P
+    → OnOk result Q → OnOk result R
+both_ok (Ok value) P Q R f p q = f p q
+both_ok (Err error) P Q R f p q = tt
+
+-- a list in which one item was set
+pub slice_get-set_same : {X : Type 0} (xs : List X) (i : ℕ) (x : X) → i < length xs
+    → slice_get (set xs i x) i ≡ Some x
+slice_get-set_same [] i x lt = absurd (omega (arith, lt))
+slice_get-set_same (y ∷ xs) zero x lt = refl
+slice_get-set_same (y ∷ xs) (suc i) x lt = slice_get-set_same xs i x (omega (arith, lt))
+
+pub slice_get-set_other : {X : Type 0} (xs : List X) (i j : ℕ) (x : X) → j ≢ i
+    → slice_get (set xs i x) j ≡ slice_get xs j
+slice_get-set_other [] i j x other = refl
+slice_get-set_other (y ∷ xs) zero zero x other = absurd (other refl)
+slice_get-set_other (y ∷ xs) zero (suc j) x other = refl
+slice_get-set_other (y ∷ xs) (suc i) zero x other = refl
+slice_get-set_other (y ∷ xs) (suc i) (suc j) x other = slice_get-set_other xs i j x
+    (λ same. other (ap suc same))

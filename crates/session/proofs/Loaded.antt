@@ -1,7 +1,15 @@
 -- A search to which the clauses of one more job come.
 use Rattle.std.proofs.Common.{◌≡◌, ◌∙◌, ℕ, ◌+◌, ◌<◌, ◌≤◌, List, [], ◌∷◌, ◌++◌, length, take, refl}
-use Rattle.std.proofs.Common.{ap, sym, subst, arith, get_or}
-use Rattle.std.specs.Prelude.{All, Contains, max}
+use Rattle.std.proofs.Common.{ap, sym, subst, inl, inr, arith, get_or}
+use Rattle.std.specs.Prelude.{◌⊎◌, All, Contains, max, filter, nat_lt}
+use Rattle.std.proofs.lemmas.Bool.{cases_lt}
+use Rattle.std.proofs.lemmas.List.{length_push}
+use Rattle.std.proofs.lemmas.List.Elements.{All-contains, Contains-append_left}
+use Rattle.std.proofs.lemmas.List.Elements.{Contains-append_right}
+use Rattle.sat_base.proofs.Members.{All-from_members, Contains-here}
+use Rattle.trail_core.specs.Trail.{TrailView}
+use Rattle.session.specs.Watched.{IsWatched}
+use Rattle.session.proofs.Watching.{watched_as, watched_cut}
 use Rattle.std.proofs.lemmas.List.{take_all, take_more, map_push, append-nil, append_assoc}
 use Rattle.std.proofs.Math.Seq.{take-append_seam}
 use Rattle.sat_base.specs.Lit.{IsLitSet, greatest_of, greatest_of_all}
@@ -15,7 +23,7 @@ use Rattle.session.specs.Solver.{clauses_of}
 use Rattle.session.specs.Stock.{IsStocked}
 use Rattle.session.specs.OnTrail.{IsOnTrail}
 use Rattle.session.specs.Units.{IsNamed}
-use Rattle.session.specs.Searching.{IsSearching, packets_of, solver_of}
+use Rattle.session.specs.Searching.{IsSearching, IsCounted, packets_of, solver_of}
 use Rattle.session.specs.Loading.{HasInputsOnly, HasInputsMore, loaded, tagged}
 use Rattle.session.proofs.Lists.{All-under}
 use Rattle.sat_base.proofs.InOrder.{in_order-itself}
@@ -43,6 +51,8 @@ no_inputs_came s = record {
   more = [];
   clauses = sym (append-nil s.store.clauses);
   vars = refl;
+  fresh = λ id from to. absurd (omega (arith, from, to));
+  still_new = All-from_members (Contains s.store.fresh) s.store.fresh (λ id has. has);
 }
 
 pub inputs_only_twice : (old mid new : Search) → HasInputsOnly old mid → HasInputsOnly mid new
@@ -58,7 +68,19 @@ inputs_only_twice old mid new a b = record {
   clauses = b.clauses ∙ ap (λ (xs : List ArenaClause). xs ++ b.more) a.clauses
       ∙ append_assoc old.store.clauses a.more b.more;
   vars = b.vars ∙ a.vars;
+  fresh = λ id from to. fresh_at id from to (cases_lt id (length mid.store.clauses));
+  still_new = All-under (Contains mid.store.fresh) (Contains new.store.fresh) old.store.fresh
+      still a.still_new;
 }
+  where
+    still : (id : ℕ) → Contains mid.store.fresh id → Contains new.store.fresh id
+    still id has = All-contains (Contains new.store.fresh) mid.store.fresh id b.still_new has
+
+    fresh_at : (id : ℕ) → length old.store.clauses ≤ id → id < length new.store.clauses
+        → (id < length mid.store.clauses) ⊎ (length mid.store.clauses ≤ id)
+        → Contains new.store.fresh id
+    fresh_at id from to (inl earlier) = still id (a.fresh id from earlier)
+    fresh_at id from to (inr later) = b.fresh id later to
 
 -- One input came.
 pub input_came : (s new : Search) (clause : List ℕ) (tag number : ℕ) → IsLitSet clause
@@ -72,14 +94,23 @@ pub input_came : (s new : Search) (clause : List ℕ) (tag number : ℕ) → IsL
       lits = clause;
       tag = tag;
       origin = Input number;
-    } ∷ [] → new.store.vars ≡ s.store.vars → new.bound ≡ tag
+    } ∷ [] → new.store.fresh ≡ s.store.fresh ++ length s.store.clauses ∷ []
+    → new.store.vars ≡ s.store.vars → new.bound ≡ tag
     → HasInputsOnly s new × HasInputsMore s new (clause ∷ []) tag
-input_came s new clause tag number set parts added vars bound = (
+input_came s new clause tag number set parts added fresh vars bound = (
   record {
     parts = parts;
     more = record { lits = clause; tag = tag; origin = Input number } ∷ [];
     clauses = added;
     vars = vars;
+    fresh = λ id from to. subst (λ (ids : List ℕ). Contains ids id) (sym fresh)
+        (Contains-append_right s.store.fresh (length s.store.clauses ∷ []) id
+        (subst (λ (n : ℕ). Contains (length s.store.clauses ∷ []) n)
+        (let e : length s.store.clauses ≡ id = omega (arith, from, to, ap length added, length_push s.store.clauses input) in e)
+        (Contains-here (length s.store.clauses) [])));
+    still_new = subst (λ (ids : List ℕ). All (Contains ids) s.store.fresh) (sym fresh)
+        (All-from_members (Contains (s.store.fresh ++ length s.store.clauses ∷ [])) s.store.fresh
+        (λ id has. Contains-append_left s.store.fresh (length s.store.clauses ∷ []) id has));
   },
   record {
     inputs = inputs_more s.store.clauses new.store.clauses clause tag number set added;
@@ -90,35 +121,35 @@ input_came s new clause tag number set parts added vars bound = (
     bound = omega (arith, bound);
   },
 )
+  where
+    input : ArenaClause
+    input = record { lits = clause; tag = tag; origin = Input number }
 
 -- The store is cut back to the clauses that were there.
 pub search_restored : (s : Search) (store : StoreView) → IsSearching s
     → store.clauses ≡ s.store.clauses → store.vars ≡ s.store.vars
+    → IsWatched store.clauses store.fresh s.trail.entries s.trail.depth s.trail.looked
     → IsSearching (record s { store = store })
-search_restored s store kept clauses vars = record {
+search_restored s store kept clauses vars watched = record {
   stock = subst (λ cs. IsStocked cs (packets_of s) s.steps.items s.bound) (sym clauses) kept.stock;
   room = record {
     over = subst (λ cs. AreAllWithin s.greatest cs) (sym clauses) kept.room.over;
     reserved = kept.room.reserved;
-    store = omega (arith, kept.room.store, vars);
-    scratch = kept.room.scratch;
-    units = kept.room.units;
-    tags = kept.room.tags;
+    in_store = omega (arith, kept.room.in_store, vars);
+    in_scratch = kept.room.in_scratch;
+    in_units = kept.room.in_units;
+    in_tags = kept.room.in_tags;
   };
-  counted = record {
-    greatest = kept.counted.greatest ∙ ap (λ cs. greatest_of_all (clauses_of (inputs_of cs)))
-        (sym clauses);
-    inputs = kept.counted.inputs ∙ ap (λ cs. length (inputs_of cs)) (sym clauses);
-    learnt = subst (λ cs. All (λ number. (one : Known) × IsStep s.steps.items number one
-        × Contains (held_of cs) one) s.learnt.items) (sym clauses) kept.counted.learnt;
-  };
+  counted = subst (λ cs. IsCounted cs s.greatest s.inputs s.steps.items s.learnt.items) (sym clauses) kept.counted;
   on = subst (λ cs. IsOnTrail (lits_of_each cs) s.trail.entries s.trail.depth)
       (sym clauses) kept.on;
   named = subst (λ cs. IsNamed (named_by (inputs_of cs)
       (packets_of s) s.steps.items) s.trail.entries s.units.items s.tags.items s.named)
       (sym clauses) kept.named;
   trail = kept.trail;
-  cursor = kept.cursor;
+  watched = watched;
+  levels = kept.levels;
+  cursors = kept.cursors;
   all_named = kept.all_named;
 }
 
@@ -152,23 +183,14 @@ search_raised s bound kept le = record {
     steps_bounded = All-under (λ step. step.tag ≤ s.bound) (λ step. step.tag ≤ bound) s.steps.items
         (λ step low. omega (arith, low, le)) kept.stock.steps_bounded;
   };
-  room = record {
-    over = kept.room.over;
-    reserved = kept.room.reserved;
-    store = kept.room.store;
-    scratch = kept.room.scratch;
-    units = kept.room.units;
-    tags = kept.room.tags;
-  };
-  counted = record {
-    greatest = kept.counted.greatest;
-    inputs = kept.counted.inputs;
-    learnt = kept.counted.learnt;
-  };
+  room = kept.room;
+  counted = kept.counted;
   on = kept.on;
   named = kept.named;
   trail = kept.trail;
-  cursor = kept.cursor;
+  watched = kept.watched;
+  levels = kept.levels;
+  cursors = kept.cursors;
   all_named = kept.all_named;
 }
 
@@ -279,8 +301,10 @@ loading_done start now clauses rest job loading none = record {
 }
 
 -- What came goes again.
-pub taken_back : (s mid : Search) (store : StoreView) (n : ℕ) → IsSearching s → HasInputsOnly s mid
-    → store.clauses ≡ take n mid.store.clauses → n ≡ length s.store.clauses
+pub taken_back : (s mid : Search) (store : StoreView) (n : ℕ) → IsSearching s → IsSearching mid
+    → s.trail.depth ≡ 0 → HasInputsOnly s mid
+    → store.clauses ≡ take n mid.store.clauses
+    → store.fresh ≡ filter (λ id. nat_lt id n) mid.store.fresh → n ≡ length s.store.clauses
     → store.vars ≡ mid.store.vars
     → IsSearching (record mid {
       store = store;
@@ -293,10 +317,19 @@ pub taken_back : (s mid : Search) (store : StoreView) (n : ℕ) → IsSearching 
       inputs = s.inputs;
       bound = s.bound;
     }) ≡ solver_of s)
-taken_back s mid store n kept only cut count vars =
+taken_back s mid store n kept kept_mid zero only cut fresh count vars =
     subst (λ (new : Search). IsSearching new × (solver_of new ≡ solver_of s)) (sym same)
-    (search_restored s store kept clauses (vars ∙ only.vars), restored_solver s store clauses)
+    (search_restored s store kept clauses (vars ∙ only.vars) watched, restored_solver s store clauses)
   where
+    trail : mid.trail ≡ s.trail
+    trail = ap (λ (x : Search). x.trail) only.parts
+
+    watched : IsWatched store.clauses store.fresh s.trail.entries s.trail.depth s.trail.looked
+    watched = watched_as cut fresh (ap (λ (t : TrailView). t.entries) (sym trail))
+        (ap (λ (t : TrailView). t.depth) (sym trail)) (ap (λ (t : TrailView). t.looked) (sym trail))
+        (watched_cut mid.store.clauses mid.store.fresh mid.trail.entries mid.trail.depth mid.trail.looked n
+        (ap (λ (t : TrailView). t.depth) trail ∙ zero) kept_mid.watched)
+
     same : record mid { store = store; greatest = s.greatest; inputs = s.inputs; bound = s.bound }
         ≡ record s { store = store }
     same = ap (λ (x : Search). record x {

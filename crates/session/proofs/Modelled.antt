@@ -72,7 +72,7 @@ pub model_of : (s : Search) (cube : List ℕ) (vars : ℕ) (values : List Bool) 
     → IsAssignmentOf (lits_of s.trail.entries) vars values
     → IsModelOf (clauses_of (inputs_of s.store.clauses)) cube values
 model_of s cube vars values kept set vars_are complete whole given = record {
-  size = given.size ∙ vars_are ∙ ap (λ n. max n (greatest_of cube)) kept.counted.greatest;
+  size = given.size ∙ vars_are ∙ ap (λ n. max n (greatest_of cube)) kept.counted.greatest_is;
   clauses_hold = all_from_members (clause_true values) (clauses_of (inputs_of s.store.clauses))
       (λ lits has. input_holds lits has);
   cube_holds = all_from_members (lit_true values) cube (λ lit has.

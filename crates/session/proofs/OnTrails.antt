@@ -285,12 +285,6 @@ cube_back cube entries level up for_cube =
     subst (IsForCube cube) (sym (up_to_is entries level n front))
     (cube_take cube entries n front.within for_cube)
 
-pub cube_forced : (clauses : List (List ℕ)) (cube : List ℕ) (entries : List Entry) (entry : Entry)
-    → IsForced clauses entries entry → IsForCube cube entries
-    → IsForCube cube (entries ++ entry ∷ [])
-cube_forced clauses cube entries entry forced for_cube = cube_push cube entries entry for_cube
-    (λ free. absurd (none-some forced.id (sym free ∙ forced.reason)))
-
 pub cube_grown : (clauses : List (List ℕ)) (cube : List ℕ) (old new : List Entry) (depth : ℕ)
     → HasGrown clauses depth old new → IsForCube cube old → IsForCube cube new
 cube_grown clauses cube old new depth grown for_cube = record { each = λ place lt above free. cube_at place lt above free (cases_lt place (length old)) }

@@ -13,27 +13,14 @@ use Rattle.sat_base.specs.declared.origins.Ref.TheVariants.{Shared}
 use Rattle.trace_trim.specs.Packed.{name_of}
 use Rattle.trace_core.proofs.Items.{item_at-found as slice_get-place}
 use Rattle.session.specs.Publishing.{AreNamedAnew}
-
-set_same : {X : Type 0} (xs : List X) (i : ℕ) (x : X) → i < length xs
-    → slice_get (set xs i x) i ≡ Some x
-set_same [] i x lt = absurd (omega (arith, lt))
-set_same (y ∷ xs) zero x lt = refl
-set_same (y ∷ xs) (suc i) x lt = set_same xs i x (omega (arith, lt))
-
-set_other : {X : Type 0} (xs : List X) (i j : ℕ) (x : X) → j ≢ i
-    → slice_get (set xs i x) j ≡ slice_get xs j
-set_other [] i j x other = refl
-set_other (y ∷ xs) zero zero x other = absurd (other refl)
-set_other (y ∷ xs) zero (suc j) x other = refl
-set_other (y ∷ xs) (suc i) zero x other = refl
-set_other (y ∷ xs) (suc i) (suc j) x other = set_other xs i j x (λ same. other (ap suc same))
+use Rattle.session.proofs.Lists.{slice_get-set_same, slice_get-set_other}
 
 name_here : (names : List (Option Ref)) (number : ℕ) (name : Ref) → 1 ≤ number
     → number ≤ length names → name_of (set names (number - 1) (Some name)) number ≡ Some name
 name_here names number name low high =
     ap (λ b. option_flatten (cond b None (slice_get (set names (number - 1) (Some name))
     (number - 1)))) (let no : (number == 0) ≡ false = grind (arith, nat_tests, low) in no)
-    ∙ ap option_flatten (set_same names (number - 1) (Some name) (omega (arith, low, high)))
+    ∙ ap option_flatten (slice_get-set_same names (number - 1) (Some name) (omega (arith, low, high)))
 
 name_elsewhere : (names : List (Option Ref)) (number other : ℕ) (name : Ref) → 1 ≤ number
     → other ≢ number → name_of (set names (number - 1) (Some name)) other ≡ name_of names other
@@ -43,7 +30,7 @@ name_elsewhere names number other name low apart = at (other == 0) refl
         (cond b None (slice_get (set names (number - 1) (Some name)) (other - 1)))
         ≡ option_flatten (cond b None (slice_get names (other - 1)))
     at true is = refl
-    at false is = ap option_flatten (set_other names (number - 1) (other - 1) (Some name)
+    at false is = ap option_flatten (slice_get-set_other names (number - 1) (other - 1) (Some name)
         (λ same. apart (let one : 1 ≤ other = grind (arith, nat_tests, is) in omega
         (arith, same, one, low))))
 

@@ -1,12 +1,12 @@
 -- A search for which variables are reserved, and that takes an input.
 use Rattle.std.proofs.Common.{◌≡◌, ◌∙◌, ℕ, ◌+◌, ◌-◌, ◌<◌, ◌≤◌, List, [], ◌∷◌, ◌++◌, length, map}
-use Rattle.std.proofs.Common.{filter, take, max, Option, None, Some, Bool, true, false, ap, sym}
+use Rattle.std.proofs.Common.{filter, take, max, Option, None, Some, Bool, true, false, refl, ap, sym}
 use Rattle.std.proofs.Common.{subst, arith, get_or, Vec, Global}
 use Rattle.std.specs.Prelude.{All, Contains, ◌==◌, cond, slice_get, option_map, option_and_then}
 use Rattle.std.specs.Arc.{arc_value}
 use Rattle.std.proofs.lemmas.Option.{none-some}
 use Rattle.std.proofs.lemmas.List.{take_all, take_more, get_or-take, length-take, map_push}
-use Rattle.std.proofs.lemmas.List.{length_push}
+use Rattle.std.proofs.lemmas.List.{length_push, append-nil}
 use Rattle.std.proofs.lemmas.List.Elements.{Contains-append_left, filter-append}
 use Rattle.sat_base.specs.Lit.{IsLitSet, variable, greatest_of, greatest_of_all}
 use Rattle.sat_base.specs.declared.origins.Ref.{Ref}
@@ -23,14 +23,17 @@ use Rattle.session.specs.Solver.{known_clause, clauses_of, is_input}
 use Rattle.session.specs.Stock.{IsStocked}
 use Rattle.session.specs.OnTrail.{AreAssigned, IsOnTrail}
 use Rattle.session.specs.Units.{IsNamed}
-use Rattle.session.specs.Searching.{IsSearching, packets_of, table_of}
+use Rattle.session.specs.Searching.{IsSearching, IsCounted, IsHeldStep, packets_of, table_of}
 use Rattle.trace_core.specs.declared.derivation.Step.{Step}
 use Rattle.session.proofs.Lists.{All-push, All-under}
 use Rattle.sat_base.proofs.InOrder.{in_order-itself}
 use Rattle.session.proofs.Stocked.{stock_input, named_with_input}
 use Rattle.session.proofs.Reasons.{named_stays}
 use Rattle.session.proofs.OnTrails.{more_on_trail}
-use Rattle.session.proofs.Cursor.{none_assigned}
+use Rattle.session.specs.Cursors.{PassesAssigned}
+use Rattle.session.proofs.Cursor.{none_assigned, assigned_stays, cursors_more, cursors_at_zero}
+use Rattle.session.proofs.Watching.{watched_as, watched_added, watched_none}
+use Rattle.session.proofs.Searches.{learnt_beside}
 use Rattle.session.proofs.UpTo.{below_greatest}
 
 -- the greatest variable, literal by literal
@@ -72,8 +75,9 @@ same_item old new i d front lt = sym (get_or-take (length old) new i d lt)
 
 pub search_reserved : (s : Search) (store : StoreView) (scratch : ℕ) (units : Vec Ref Global)
     (tags : Vec ℕ Global) (trail : TrailView) → IsSearching s → IsTrail trail
-    → store.clauses ≡ s.store.clauses → trail.entries ≡ s.trail.entries
-    → trail.depth ≡ s.trail.depth → s.trail.vars ≤ trail.vars
+    → store.clauses ≡ s.store.clauses → store.fresh ≡ s.store.fresh
+    → trail.entries ≡ s.trail.entries → trail.depth ≡ s.trail.depth
+    → trail.looked ≡ s.trail.looked → s.trail.vars ≤ trail.vars
     → trail.vars ≤ store.vars → trail.vars ≤ scratch → trail.vars ≤ length units.items
     → trail.vars ≤ length tags.items
     → take (length s.units.items) units.items ≡ s.units.items
@@ -85,23 +89,17 @@ pub search_reserved : (s : Search) (store : StoreView) (scratch : ℕ) (units : 
       tags = tags;
       trail = trail;
     })
-search_reserved s store scratch units tags trail kept is clauses entries depth more in_store in_scratch in_units in_tags units_front tags_front = record {
+search_reserved s store scratch units tags trail kept is clauses fresh entries depth looked more in_store in_scratch in_units in_tags units_front tags_front = record {
   stock = subst (λ cs. IsStocked cs (packets_of s) s.steps.items s.bound) (sym clauses) kept.stock;
   room = record {
     over = subst (λ cs. AreAllWithin s.greatest cs) (sym clauses) kept.room.over;
     reserved = omega (arith, kept.room.reserved, more);
-    store = in_store;
-    scratch = in_scratch;
-    units = in_units;
-    tags = in_tags;
+    in_store = in_store;
+    in_scratch = in_scratch;
+    in_units = in_units;
+    in_tags = in_tags;
   };
-  counted = record {
-    greatest = kept.counted.greatest ∙ ap (λ cs. greatest_of_all (clauses_of (inputs_of cs)))
-        (sym clauses);
-    inputs = kept.counted.inputs ∙ ap (λ cs. length (inputs_of cs)) (sym clauses);
-    learnt = subst (λ cs. All (λ number. (one : Known) × IsStep s.steps.items number one
-        × Contains (held_of cs) one) s.learnt.items) (sym clauses) kept.counted.learnt;
-  };
+  counted = subst (λ cs. IsCounted cs s.greatest s.inputs s.steps.items s.learnt.items) (sym clauses) kept.counted;
   on = subst (λ cs. IsOnTrail (lits_of_each cs) trail.entries trail.depth) (sym clauses)
       (subst (λ (es : List Entry). IsOnTrail (lits_of_each s.store.clauses) es trail.depth)
       (sym entries) (subst (IsOnTrail (lits_of_each s.store.clauses) s.trail.entries)
@@ -114,7 +112,10 @@ search_reserved s store scratch units tags trail kept is clauses entries depth m
         known = λ place lt. known_at place lt;
       }));
   trail = is;
-  cursor = subst (λ (es : List Entry). AreAssigned (lits_of es) s.cursor) (sym entries) kept.cursor;
+  watched = watched_as clauses fresh entries depth looked kept.watched;
+  levels = kept.levels ∙ sym depth;
+  cursors = cursors_more PassesAssigned s.trail trail [] s.cursor s.cursors.items assigned_stays
+      (entries ∙ sym (append-nil s.trail.entries)) depth kept.cursors;
   all_named = λ deep place lt bottom. kept.all_named (omega (arith, deep, depth)) place
       (omega (arith, lt, ap length entries)) (ap (λ (es : List Entry). (entry_at es place).level)
       (sym entries) ∙ bottom);
@@ -129,11 +130,11 @@ search_reserved s store scratch units tags trail kept is clauses entries depth m
         let r = kept.trail.reserved place no_entry (omega (arith, lt, kept.named.within)) in
         subst (λ name. IsNameOf (table_of s) name ((entry_at s.trail.entries place).lit ∷ [])
         (tag_of_unit tags.items var)) (sym (same_item s.units.items units.items (var - 1)
-        (Input 0) units_front (omega (arith, r.0, r.1, kept.room.units))))
+        (Input 0) units_front (omega (arith, r.0, r.1, kept.room.in_units))))
         (subst (λ tag. IsNameOf (table_of s) (unit_of s.units.items var)
         ((entry_at s.trail.entries place).lit ∷ []) tag)
         (sym (same_item s.tags.items tags.items (var - 1) 0 tags_front
-        (omega (arith, r.0, r.1, kept.room.tags)))) (kept.named.known place lt))
+        (omega (arith, r.0, r.1, kept.room.in_tags)))) (kept.named.known place lt))
 
 pub inputs_more : (clauses clauses' : List ArenaClause) (clause : List ℕ) (tag number : ℕ)
     → IsLitSet clause → clauses' ≡ clauses ++ record {
@@ -160,13 +161,14 @@ pub search_input : (s : Search) (clause : List ℕ) (store : StoreView)
       lits = clause;
       tag = tag;
       origin = Input number;
-    } ∷ [] → store.vars ≡ s.store.vars
+    } ∷ [] → store.fresh ≡ s.store.fresh ++ length s.store.clauses ∷ []
+    → store.vars ≡ s.store.vars
     → IsSearching (record s { store = store; greatest = most; inputs = number; bound = tag })
-search_input s clause store tag number greatest most kept zero set le last greatest_is most_is within added vars_are = record {
+search_input s clause store tag number greatest most kept zero set le last greatest_is most_is within added fresh_is vars_are = record {
   stock = subst (λ cs. IsStocked cs (packets_of s) s.steps.items tag) (sym added)
       (stock_input s.store.clauses
       (packets_of s) s.steps.items s.bound tag number clause kept.stock le
-      (omega (arith, last, kept.counted.inputs)) set.each set.ascending);
+      (omega (arith, last, kept.counted.inputs_are)) set.each set.ascending);
   room = record {
     over = subst (λ cs. AreAllWithin most cs) (sym added)
         (All-push (λ (one : ArenaClause). AreWithin most one.lits) s.store.clauses input
@@ -179,31 +181,21 @@ search_input s clause store tag number greatest most kept zero set le last great
         (λ lit has. (let h = below_greatest clause lit has in omega
         (arith, h, most_is, greatest_is)))));
     reserved = omega (arith, kept.room.reserved, within, most_is);
-    store = omega (arith, kept.room.store, vars_are);
-    scratch = kept.room.scratch;
-    units = kept.room.units;
-    tags = kept.room.tags;
+    in_store = omega (arith, kept.room.in_store, vars_are);
+    in_scratch = kept.room.in_scratch;
+    in_units = kept.room.in_units;
+    in_tags = kept.room.in_tags;
   };
   counted = record {
-    greatest = most_is ∙ ap (λ n. max n greatest) kept.counted.greatest
+    greatest_is = most_is ∙ ap (λ n. max n greatest) kept.counted.greatest_is
         ∙ ap (max (greatest_of_all (clauses_of (inputs_of s.store.clauses)))) greatest_is
         ∙ sym (ap (λ xs. greatest_of_all (clauses_of xs)) inputs
         ∙ ap greatest_of_all (map_push (λ (one : Known). one.clause)
         (inputs_of s.store.clauses) one) ∙ greatest_all_push
         (clauses_of (inputs_of s.store.clauses)) clause);
-    inputs = last ∙ ap (λ n. n + 1) kept.counted.inputs
+    inputs_are = last ∙ ap (λ n. n + 1) kept.counted.inputs_are
         ∙ sym (ap length inputs ∙ length_push (inputs_of s.store.clauses) one);
-    learnt = subst (λ held. All (λ n. (x : Known) × IsStep s.steps.items n x
-        × Contains held x) s.learnt.items) (sym held)
-        (All-under (λ n. (x : Known) × IsStep s.steps.items n x
-        × Contains (held_of s.store.clauses) x) (λ n. (x : Known) × IsStep s.steps.items n x
-        × Contains (held_of s.store.clauses ++ one ∷ []) x) s.learnt.items
-        (λ n (x, is, there). (
-          x,
-          is,
-          Contains-append_left (held_of s.store.clauses)
-              (one ∷ []) x there,
-        )) kept.counted.learnt);
+    learnt_held = learnt_beside s.store.clauses store.clauses s.steps.items s.learnt.items (one ∷ []) held kept.counted.learnt_held;
   };
   on = subst (λ lits. IsOnTrail lits s.trail.entries s.trail.depth)
       (sym (ap lits_of_each added ∙ map_push (λ (c : ArenaClause). c.lits) s.store.clauses input))
@@ -216,7 +208,10 @@ search_input s clause store tag number greatest most kept zero set le last great
       (λ name known is. named_with_input (inputs_of s.store.clauses) one
       (packets_of s) s.steps.items name known is) kept.named);
   trail = kept.trail;
-  cursor = kept.cursor;
+  watched = watched_as added fresh_is refl refl refl
+      (watched_added s.store.clauses s.store.fresh s.trail.entries s.trail.depth s.trail.looked input zero kept.watched);
+  levels = kept.levels;
+  cursors = kept.cursors;
   all_named = λ deep. absurd (omega (arith, deep, zero));
 }
   where
@@ -250,10 +245,11 @@ none_known packets place number one none is = at (place == 0)
     at false is = none-some one is
 
 -- a search without inputs
-pub new_search : (s : Search) → s.store.clauses ≡ [] → s.trail.entries ≡ [] → s.trail.depth ≡ 0
-    → s.trail.vars ≡ 0 → s.packets.items ≡ [] → s.steps.items ≡ [] → s.learnt.items ≡ []
-    → s.named ≡ 0 → s.cursor ≡ 0 → s.greatest ≡ 0 → s.inputs ≡ 0 → IsSearching s
-new_search s clauses entries depth vars packets steps learnt named cursor greatest inputs = record {
+pub new_search : (s : Search) → s.store.clauses ≡ [] → s.store.fresh ≡ []
+    → s.trail.entries ≡ [] → s.trail.depth ≡ 0 → s.trail.looked ≡ 0 → s.trail.vars ≡ 0 → s.packets.items ≡ [] → s.steps.items ≡ [] → s.learnt.items ≡ []
+    → s.named ≡ 0 → s.cursor.variables ≡ 0 → s.cursors.items ≡ [] → s.greatest ≡ 0
+    → s.inputs ≡ 0 → IsSearching s
+new_search s clauses fresh entries depth looked vars packets steps learnt named cursor cursors greatest inputs = record {
   stock = subst (λ cs. IsStocked cs (packets_of s) s.steps.items s.bound) (sym clauses) (subst (λ xs. IsStocked [] (packets_of s) xs s.bound) (sym steps) (record {
     lits = λ i d lt. absurd (omega (arith, lt));
     named = λ i d lt. absurd (omega (arith, lt));
@@ -271,16 +267,15 @@ new_search s clauses entries depth vars packets steps learnt named cursor greate
     over = subst (λ cs. AreAllWithin s.greatest cs) (sym clauses)
         (λ i d lt. absurd (omega (arith, lt)));
     reserved = omega (arith, vars, greatest);
-    store = omega (arith, vars);
-    scratch = omega (arith, vars);
-    units = omega (arith, vars);
-    tags = omega (arith, vars);
+    in_store = omega (arith, vars);
+    in_scratch = omega (arith, vars);
+    in_units = omega (arith, vars);
+    in_tags = omega (arith, vars);
   };
   counted = record {
-    greatest = greatest ∙ sym (ap (λ cs. greatest_of_all (clauses_of (inputs_of cs))) clauses);
-    inputs = inputs ∙ sym (ap (λ cs. length (inputs_of cs)) clauses);
-    learnt = subst (λ numbers. All (λ n. (x : Known) × IsStep s.steps.items n x
-        × Contains (held_of s.store.clauses) x) numbers) (sym learnt)
+    greatest_is = greatest ∙ sym (ap (λ cs. greatest_of_all (clauses_of (inputs_of cs))) clauses);
+    inputs_are = inputs ∙ sym (ap (λ cs. length (inputs_of cs)) clauses);
+    learnt_held = subst (All (IsHeldStep s.steps.items (held_of s.store.clauses))) (sym learnt)
         (λ i d lt. absurd (omega (arith, lt)));
   };
   on = record {
@@ -304,10 +299,15 @@ new_search s clauses entries depth vars packets steps learnt named cursor greate
     below = λ i d lt. absurd (none i lt);
     reserved = λ i d lt. absurd (none i lt);
     few = omega (arith, ap length entries, vars);
+    looked_at = omega (arith, looked);
     shallow = omega (arith, depth, vars);
   };
-  cursor = subst (AreAssigned (lits_of s.trail.entries)) (sym cursor)
-      (none_assigned (lits_of s.trail.entries));
+  watched = watched_as clauses fresh refl refl refl (watched_none s.trail.entries s.trail.depth s.trail.looked depth
+      (omega (arith, looked, ap length entries)));
+  levels = omega (arith, ap length cursors, depth);
+  cursors = cursors_at_zero PassesAssigned s.trail s.cursor s.cursors.items depth
+      (subst (AreAssigned (lits_of s.trail.entries)) (sym cursor)
+      (none_assigned (lits_of s.trail.entries)));
   all_named = λ deep. absurd (omega (arith, deep, depth));
 }
   where

@@ -1,30 +1,57 @@
 -- A search whose steps become more.
 use Rattle.std.proofs.Common.{◌≡◌, ◌∙◌, ℕ, ◌+◌, ◌-◌, get_or, set, List, [], ◌∷◌, ◌++◌, length, map}
 use Rattle.std.proofs.Common.{Option, Some, refl, ap, sym, subst, arith, Vec, Global}
-use Rattle.std.specs.Prelude.{◌<◌, ◌≤◌, None, Contains}
+use Rattle.std.specs.Prelude.{◌<◌, ◌≤◌, None, Contains, All}
 use Rattle.std.proofs.lemmas.Option.{none-some}
-use Rattle.std.proofs.lemmas.List.Elements.{All-get_or, All-append}
-use Rattle.clause_arena.specs.Arena.{clause_at, no_clause}
+use Rattle.std.proofs.lemmas.List.Elements.{All-get_or, All-append, Contains-append_left}
+use Rattle.clause_arena.specs.Arena.{ArenaClause, clause_at, no_clause}
 use Rattle.trail_core.specs.Trail.{Entry, TrailView, IsTrail, entry_at, no_entry, lits_of}
 use Rattle.analyze.specs.Table.{IsNameOf}
 use Rattle.session.specs.Units.{KnowsOpposites}
 use Rattle.sat_base.proofs.InOrder.{in_order-has}
 use Rattle.std.proofs.lemmas.List.{length_push, map_push, get_or-map, length-set, append-nil}
 use Rattle.std.proofs.lemmas.List.{append_assoc}
-use Rattle.sat_base.specs.Lit.{variable}
+use Rattle.sat_base.specs.Lit.{variable, greatest_of_all}
 use Rattle.sat_base.specs.declared.origins.Ref.{Ref}
 use Rattle.sat_base.specs.declared.origins.Ref.TheVariants.{Own}
 use Rattle.trace_core.specs.Known.{Known, item_at}
 use Rattle.trace_core.specs.Trace.{IsOkStep, known_of}
 use Rattle.trace_core.specs.declared.derivation.Step.{Step}
 use Rattle.session.specs.declared.search.Search.{Search}
-use Rattle.session.specs.Solver.{inputs_of, held_of, named_by, IsStep, known_clause}
+use Rattle.session.specs.Solver.{inputs_of, held_of, clauses_of, named_by, IsStep, known_clause}
 use Rattle.session.specs.Stock.{IsStocked}
-use Rattle.session.specs.Searching.{IsSearching, HasUnitsMore, packets_of, table_of}
+use Rattle.session.specs.Searching.{IsSearching, IsCounted, IsHeldStep, HasUnitsMore, packets_of}
+use Rattle.session.specs.Searching.{table_of}
 use Rattle.session.proofs.Lists.{All-under}
 use Rattle.trace_core.proofs.Items.{item_at-append}
 use Rattle.session.proofs.Stocked.{named_with_step, named_last, stock_step}
 use Rattle.session.proofs.Reasons.{named_stays, name_one, IsReason, reason_is, opposites_known}
+
+-- What was held stays so where more is.
+held_stays : (steps : List Step) (held more : List Known) (numbers : List ℕ)
+    → All (IsHeldStep steps held) numbers → All (IsHeldStep steps (held ++ more)) numbers
+held_stays steps held more numbers all = All-under (IsHeldStep steps held)
+    (IsHeldStep steps (held ++ more)) numbers
+    (λ number (one, is, has). (one, is, Contains-append_left held more one has)) all
+
+pub learnt_beside : (clauses clauses' : List ArenaClause) (steps : List Step) (learnt : List ℕ)
+    (more : List Known) → held_of clauses' ≡ held_of clauses ++ more
+    → All (IsHeldStep steps (held_of clauses)) learnt
+    → All (IsHeldStep steps (held_of clauses')) learnt
+learnt_beside clauses clauses' steps learnt more held all =
+    subst (λ (xs : List Known). All (IsHeldStep steps xs) learnt) (sym held)
+    (held_stays steps (held_of clauses) more learnt all)
+
+-- a clause comes that is no input
+pub counted_beside : (clauses clauses' : List ArenaClause) (greatest inputs : ℕ) (steps : List Step)
+    (learnt : List ℕ) (more : List Known) → inputs_of clauses' ≡ inputs_of clauses
+    → held_of clauses' ≡ held_of clauses ++ more → IsCounted clauses greatest inputs steps learnt
+    → IsCounted clauses' greatest inputs steps learnt
+counted_beside clauses clauses' greatest inputs steps learnt more same held counted = record {
+  greatest_is = counted.greatest_is ∙ ap (λ xs. greatest_of_all (clauses_of xs)) (sym same);
+  inputs_are = counted.inputs_are ∙ ap length (sym same);
+  learnt_held = learnt_beside clauses clauses' steps learnt more held counted.learnt_held;
+}
 
 with_steps : (search : Search) (steps : Vec Step Global)
     → IsStocked search.store.clauses (packets_of search) steps.items search.bound
@@ -36,28 +63,21 @@ with_steps : (search : Search) (steps : Vec Step Global)
     → IsSearching search → IsSearching (record search { steps = steps })
 with_steps search steps stock grows numbered s = record {
   stock = stock;
-  room = record {
-    over = s.room.over;
-    reserved = s.room.reserved;
-    store = s.room.store;
-    scratch = s.room.scratch;
-    units = s.room.units;
-    tags = s.room.tags;
-  };
+  room = s.room;
   counted = record {
-    greatest = s.counted.greatest;
-    inputs = s.counted.inputs;
-    learnt = All-under (λ number. (one : Known) × IsStep search.steps.items number one
-        × Contains (held_of search.store.clauses) one)
-        (λ number. (one : Known) × IsStep steps.items number one
-        × Contains (held_of search.store.clauses) one) search.learnt.items
-        (λ number (one, is, held). (one, numbered number one is, held)) s.counted.learnt;
+    greatest_is = s.counted.greatest_is;
+    inputs_are = s.counted.inputs_are;
+    learnt_held = All-under (IsHeldStep search.steps.items (held_of search.store.clauses))
+        (IsHeldStep steps.items (held_of search.store.clauses)) search.learnt.items
+        (λ number (one, is, held). (one, numbered number one is, held)) s.counted.learnt_held;
   };
   on = s.on;
   named = named_stays (table_of search) (named_by (inputs_of search.store.clauses)
       (packets_of search) steps.items) search.trail.entries search.units.items search.tags.items search.named grows s.named;
   trail = s.trail;
-  cursor = s.cursor;
+  watched = s.watched;
+  levels = s.levels;
+  cursors = s.cursors;
   all_named = s.all_named;
 }
 
@@ -161,36 +181,34 @@ search_named s units tags name tag lit kept lt zero is one units_are tags_are = 
   room = record {
     over = kept.room.over;
     reserved = kept.room.reserved;
-    store = kept.room.store;
-    scratch = kept.room.scratch;
-    units = omega (
+    in_store = kept.room.in_store;
+    in_scratch = kept.room.in_scratch;
+    in_units = omega (
       arith,
-      kept.room.units,
+      kept.room.in_units,
       ap length units_are,
       length-set s.units.items
           (variable lit - 1) name,
     );
-    tags = omega (
+    in_tags = omega (
       arith,
-      kept.room.tags,
+      kept.room.in_tags,
       ap length tags_are,
       length-set s.tags.items
           (variable lit - 1) tag,
     );
   };
-  counted = record {
-    greatest = kept.counted.greatest;
-    inputs = kept.counted.inputs;
-    learnt = kept.counted.learnt;
-  };
+  counted = kept.counted;
   on = kept.on;
   named = name_one (table_of s) s.trail s.units.items units.items s.tags.items tags.items s.named name tag kept.trail lt (at_zero s.trail s.named kept.trail lt zero) kept.named
       (subst (λ x. IsNameOf (table_of s) name (x ∷ []) tag) is one)
-      (omega (arith, reserved, kept.room.units)) (omega (arith, reserved, kept.room.tags))
+      (omega (arith, reserved, kept.room.in_units)) (omega (arith, reserved, kept.room.in_tags))
       (units_are ∙ ap (λ x. set s.units.items (variable x - 1) name) is)
       (tags_are ∙ ap (λ x. set s.tags.items (variable x - 1) tag) is);
   trail = kept.trail;
-  cursor = kept.cursor;
+  watched = kept.watched;
+  levels = kept.levels;
+  cursors = kept.cursors;
   all_named = λ deep. absurd (omega (arith, deep, zero));
 }
   where

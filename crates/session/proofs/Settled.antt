@@ -17,11 +17,14 @@ use Rattle.session.specs.declared.search.Search.{Search}
 use Rattle.session.specs.Solver.{inputs_of, named_by, IsStep, clauses_of}
 use Rattle.session.specs.OnTrail.{IsOnTrail}
 use Rattle.session.specs.Units.{IsNamed}
-use Rattle.session.specs.Searching.{IsSearching, packets_of, AreAllNamed, table_of}
+use Rattle.session.specs.Searching.{IsSearching, IsHeldStep, packets_of, AreAllNamed, table_of}
 use Rattle.session.specs.Fronts.{IsFront}
 use Rattle.session.proofs.SameClauses.{AreOneByOne, one_by_one, inputs_same, held_same, stock_same}
 use Rattle.session.proofs.OnTrails.{propagated_on_trail}
-use Rattle.session.proofs.Cursor.{assigned_grown}
+use Rattle.session.specs.Cursors.{PassesAssigned}
+use Rattle.propagate.specs.Pairing.{IsPaired, AreReady, ArePendingAt}
+use Rattle.session.proofs.Cursor.{assigned_stays, cursors_grown}
+use Rattle.session.proofs.Watching.{watched_propagated}
 use Rattle.session.proofs.Fronts.{level_at, entry_in}
 
 pub pairs_of : (s : Search) (store : StoreView) → IsSearching s
@@ -44,24 +47,27 @@ pub search_propagated : (s : Search) (store : StoreView) (trail : TrailView) →
     → HasGrown (lits_of_each store.clauses) s.trail.depth s.trail.entries trail.entries
     → IsFounded (lits_of_each store.clauses) trail.entries s.trail.depth
     → trail.depth ≡ s.trail.depth → trail.vars ≡ s.trail.vars → IsTrail trail
+    → IsPaired store.clauses store.fresh trail.entries trail.looked
+    → AreReady store.clauses store.fresh trail.entries trail.depth
+    → ArePendingAt trail.entries trail.looked trail.depth
+    → All (Contains s.store.fresh) store.fresh
     → IsSearching (record s { store = store; trail = trail })
-search_propagated s store trail kept same store_vars grown founded depth_is vars_are is = record {
+search_propagated s store trail kept same store_vars grown founded depth_is vars_are is paired ready pending still = record {
   stock = stock_same s.store.clauses store.clauses
       (packets_of s) s.steps.items s.bound same kept.stock;
   room = record {
     over = within_same s.greatest s.store.clauses store.clauses same kept.room.over;
     reserved = omega (arith, kept.room.reserved, vars_are);
-    store = omega (arith, kept.room.store, vars_are, store_vars);
-    scratch = omega (arith, kept.room.scratch, vars_are);
-    units = omega (arith, kept.room.units, vars_are);
-    tags = omega (arith, kept.room.tags, vars_are);
+    in_store = omega (arith, kept.room.in_store, vars_are, store_vars);
+    in_scratch = omega (arith, kept.room.in_scratch, vars_are);
+    in_units = omega (arith, kept.room.in_units, vars_are);
+    in_tags = omega (arith, kept.room.in_tags, vars_are);
   };
   counted = record {
-    greatest = kept.counted.greatest ∙ ap (λ xs. greatest_of_all (clauses_of xs)) inputs;
-    inputs = kept.counted.inputs ∙ ap length inputs;
-    learnt = subst (λ held. All (λ number. (one : Known) × IsStep s.steps.items number one
-        × Contains held one) s.learnt.items)
-        (held_same s.store.clauses store.clauses pairs) kept.counted.learnt;
+    greatest_is = kept.counted.greatest_is ∙ ap (λ xs. greatest_of_all (clauses_of xs)) inputs;
+    inputs_are = kept.counted.inputs_are ∙ ap length inputs;
+    learnt_held = subst (λ held. All (IsHeldStep s.steps.items held) s.learnt.items)
+        (held_same s.store.clauses store.clauses pairs) kept.counted.learnt_held;
   };
   on = subst (λ depth. IsOnTrail (lits_of_each store.clauses) trail.entries depth) (sym depth_is)
       (propagated_on_trail s.store.clauses store.clauses s.trail.entries trail.entries s.trail.depth same grown founded kept.on);
@@ -74,7 +80,10 @@ search_propagated s store trail kept same store_vars grown founded depth_is vars
         (kept.named.known place lt);
   });
   trail = is;
-  cursor = assigned_grown (lits_of_each store.clauses) s.trail.depth s.cursor s.trail.entries trail.entries grown kept.cursor;
+  watched = watched_propagated s.store.clauses store.clauses s.store.fresh store.fresh s.trail.entries trail.entries
+      (lits_of_each store.clauses) s.trail.depth trail.depth s.trail.looked trail.looked same grown depth_is paired ready pending still kept.watched;
+  levels = kept.levels ∙ sym depth_is;
+  cursors = cursors_grown PassesAssigned (lits_of_each store.clauses) s.trail trail s.cursor s.cursors.items assigned_stays grown depth_is kept.cursors;
   all_named = λ deep place lt zero. all_at deep place lt zero
       (cases_lt place (length s.trail.entries));
 }

@@ -18,7 +18,7 @@ lit_bound : (lit : ℕ) → IsLit lit → variable lit ≤ 8388607
 lit_bound lit is = omega (arith, is.within)
 
 pub few_variables : (s : Search) → IsSearching s → s.greatest ≤ 8388607
-few_variables s kept = subst (λ n. n ≤ 8388607) (sym kept.counted.greatest)
+few_variables s kept = subst (λ n. n ≤ 8388607) (sym kept.counted.greatest_is)
     (greatest_all_within (clauses_of (inputs_of s.store.clauses)) 8388607
     (λ lits has. each lits has))
   where

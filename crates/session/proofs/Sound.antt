@@ -55,5 +55,5 @@ sound search kept = record {
   steps_within = kept.stock.steps_within;
   ok = kept.stock.ok;
   packets_held = kept.stock.packets_held;
-  learnt_held = kept.counted.learnt;
+  learnt_held = kept.counted.learnt_held;
 }

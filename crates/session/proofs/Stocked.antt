@@ -1,7 +1,7 @@
 -- What a solver keeps when a step, a learnt clause or an input comes to it.
 use Rattle.std.proofs.Common.{◌≡◌, ◌∙◌, ℕ, ◌+◌, ◌≤◌, List, [], ◌∷◌, ◌++◌, length, map, filter}
-use Rattle.std.proofs.Common.{Option, None, Some, Bool, true, false, inl, inr, ap, sym, subst}
-use Rattle.std.proofs.Common.{arith}
+use Rattle.std.proofs.Common.{Option, None, Some, Bool, true, false, inl, inr, refl, ap, sym}
+use Rattle.std.proofs.Common.{subst, arith}
 use Rattle.std.specs.Prelude.{All, Contains, IsTrue, IsSome, ◌==◌, cond, option_map}
 use Rattle.std.specs.Prelude.{option_and_then}
 use Rattle.std.proofs.lemmas.List.{map_push, length-map, append-nil, append_assoc}
@@ -287,13 +287,14 @@ stock_step clauses packets steps bound step stock ok = record {
       (step_bounded clauses packets steps bound step stock ok);
 }
 
--- A clause that is named as an own step is no input.
-pub inputs_learnt : (clauses : List ArenaClause) (lits : List ℕ) (tag number : ℕ)
-    → inputs_of (clauses ++ record { lits = lits; tag = tag; origin = Own number } ∷ [])
-    ≡ inputs_of clauses
-inputs_learnt clauses lits tag number =
+-- A clause that isn't named as an input is none.
+pub inputs_beside : (clauses : List ArenaClause) (one : ArenaClause) → is_input one.origin ≡ false
+    → inputs_of (clauses ++ one ∷ []) ≡ inputs_of clauses
+inputs_beside clauses one none =
     ap (map known_clause) (filter-append (λ (clause : ArenaClause). is_input clause.origin) clauses
-    (record { lits = lits; tag = tag; origin = Own number } ∷ [])
+    (one ∷ [])
+    ∙ ap (λ (b : Bool). filter (λ (clause : ArenaClause). is_input clause.origin) clauses
+    ++ cond b (one ∷ []) []) none
     ∙ append-nil (filter (λ (clause : ArenaClause). is_input clause.origin) clauses))
 
 -- What was held stays so.
@@ -350,7 +351,7 @@ stock_learnt clauses packets steps bound step number stock is lits ascending = r
     learnt = record { lits = step.clause; tag = step.tag; origin = Own number }
 
     same : inputs_of (clauses ++ learnt ∷ []) ≡ inputs_of clauses
-    same = inputs_learnt clauses step.clause step.tag number
+    same = inputs_beside clauses learnt refl
 
     known_is : known_of step ≡ known_clause learnt
     known_is = ap (λ lits. record { clause = lits; tag = step.tag })

@@ -31,30 +31,17 @@ use Rattle.session.specs.OnTrail.{IsOnTrail}
 use Rattle.session.specs.Units.{IsNamed}
 use Rattle.session.specs.Searching.{IsSearching, packets_of, solver_of, table_of}
 use Rattle.session.specs.Sharing.{IsTakable, HasPlaceMore, HasTaken, IsHeld, HoldsLast}
-use Rattle.session.proofs.Lists.{All-push, All-under}
+use Rattle.session.proofs.Lists.{All-push, All-under, slice_get-set_same, slice_get-set_other}
 use Rattle.trace_core.proofs.Items.{item_at-map}
 use Rattle.sat_base.proofs.InOrder.{in_order-itself}
 use Rattle.session.proofs.UpTo.{below_greatest, among_greatest, greatest_all_within, among_inputs}
-use Rattle.session.proofs.Stocked.{held_push}
+use Rattle.session.proofs.Stocked.{held_push, inputs_beside}
+use Rattle.session.proofs.Watching.{watched_as, watched_added}
+use Rattle.session.proofs.Searches.{counted_beside}
 use Rattle.session.proofs.Reasons.{named_stays}
 use Rattle.session.proofs.OnTrails.{more_on_trail}
 
 -- Places.
-
-slice_get-set_same : {X : Type 0} (xs : List X) (i : ℕ) (x : X) → i < length xs
-    → slice_get (set xs i x) i ≡ Some x
-slice_get-set_same [] i x lt = absurd (omega (arith, lt))
-slice_get-set_same (y ∷ xs) zero x lt = refl
-slice_get-set_same (y ∷ xs) (suc i) x lt = slice_get-set_same xs i x (omega (arith, lt))
-
-slice_get-set_other : {X : Type 0} (xs : List X) (i j : ℕ) (x : X) → j ≢ i
-    → slice_get (set xs i x) j ≡ slice_get xs j
-slice_get-set_other [] i j x other = refl
-slice_get-set_other (y ∷ xs) zero zero x other = absurd (other refl)
-slice_get-set_other (y ∷ xs) zero (suc j) x other = refl
-slice_get-set_other (y ∷ xs) (suc i) zero x other = refl
-slice_get-set_other (y ∷ xs) (suc i) (suc j) x other = slice_get-set_other xs i j x
-    (λ same. other (ap suc same))
 
 -- the value at a place that may be empty
 joined : {X : Type 0} → Option (Option X) → Option X
@@ -183,14 +170,6 @@ ok_over_more inputs shared shared' grows own (step ∷ steps) ok = (
 
 -- The last clause of a packet comes to be held.
 
-inputs_shared : (clauses : List ArenaClause) (lits : List ℕ) (tag place number : ℕ)
-    → inputs_of (clauses ++ record { lits = lits; tag = tag; origin = Shared place number } ∷ [])
-    ≡ inputs_of clauses
-inputs_shared clauses lits tag place number =
-    ap (map known_clause) (filter-append (λ (clause : ArenaClause). is_input clause.origin) clauses
-    (record { lits = lits; tag = tag; origin = Shared place number } ∷ [])
-    ∙ append-nil (filter (λ (clause : ArenaClause). is_input clause.origin) clauses))
-
 stock_shared : (clauses : List ArenaClause) (packets packets' : List (Option (List Step)))
     (steps : List Step) (bound place : ℕ) (packet : List Step) (one : Known)
     → IsStocked clauses packets steps bound → HasPlaceMore packets packets' place packet
@@ -246,7 +225,7 @@ stock_shared clauses packets packets' steps bound place packet one stock more fr
     shared = record { lits = one.clause; tag = one.tag; origin = Shared place (length packet) }
 
     same : inputs_of (clauses ++ shared ∷ []) ≡ inputs_of clauses
-    same = inputs_shared clauses one.clause one.tag place (length packet)
+    same = inputs_beside clauses shared refl
 
     known_is : known_clause shared ≡ one
     known_is = ap (λ lits. record { clause = lits; tag = one.tag })
@@ -288,9 +267,9 @@ pub search_took : (s new : Search) (place : ℕ) (packet : List Step) (one : Kno
       lits = one.clause;
       tag = one.tag;
       origin = Shared place (length packet);
-    } ∷ [] → new.store.vars ≡ s.store.vars
-    → IsSearching new
-search_took s new place packet one kept bottom parts more free takable ascends added vars = subst (λ (x : Search). IsSearching x) (sym parts) (record {
+    } ∷ [] → new.store.fresh ≡ s.store.fresh ++ length s.store.clauses ∷ []
+    → new.store.vars ≡ s.store.vars → IsSearching new
+search_took s new place packet one kept bottom parts more free takable ascends added fresh vars = subst (λ (x : Search). IsSearching x) (sym parts) (record {
   stock = subst (λ cs. IsStocked cs (packets_of new) s.steps.items s.bound) (sym added)
       (stock_shared s.store.clauses (packets_of s)
       (packets_of new) s.steps.items s.bound place packet one kept.stock more free takable.last takable.bounded takable.follows takable.within ascends);
@@ -299,30 +278,15 @@ search_took s new place packet one kept bottom parts more free takable ascends a
         (All-push (λ (clause : ArenaClause). AreWithin s.greatest clause.lits) s.store.clauses shared kept.room.over
         (All-from_members (λ lit. variable lit ≤ s.greatest) one.clause
         (λ lit has. (let low = below_greatest one.clause lit has in omega
-        (arith, low, one_within, kept.counted.greatest)))));
+        (arith, low, one_within, kept.counted.greatest_is)))));
     reserved = kept.room.reserved;
-    store = omega (arith, kept.room.store, vars);
-    scratch = kept.room.scratch;
-    units = kept.room.units;
-    tags = kept.room.tags;
+    in_store = omega (arith, kept.room.in_store, vars);
+    in_scratch = kept.room.in_scratch;
+    in_units = kept.room.in_units;
+    in_tags = kept.room.in_tags;
   };
-  counted = record {
-    greatest = kept.counted.greatest ∙ ap (λ inputs. greatest_of_all (clauses_of inputs))
-        (sym inputs);
-    inputs = kept.counted.inputs ∙ ap length (sym inputs);
-    learnt = subst (λ held. All (λ number. (x : Known) × IsStep s.steps.items number x
-        × Contains held x) s.learnt.items) (sym held)
-        (All-under (λ number. (x : Known) × IsStep s.steps.items number x
-        × Contains (held_of s.store.clauses) x) (λ number. (x : Known)
-        × IsStep s.steps.items number x × Contains
-        (held_of s.store.clauses ++ known_clause shared ∷ []) x) s.learnt.items
-        (λ n (x, is, there). (
-          x,
-          is,
-          Contains-append_left (held_of s.store.clauses)
-              (known_clause shared ∷ []) x there,
-        )) kept.counted.learnt);
-  };
+  counted = counted_beside s.store.clauses new.store.clauses s.greatest s.inputs s.steps.items s.learnt.items
+      (known_clause shared ∷ []) inputs held kept.counted;
   on = subst (λ lits. IsOnTrail lits s.trail.entries s.trail.depth)
       (sym (ap lits_of_each added
       ∙ map_push (λ (clause : ArenaClause). clause.lits) s.store.clauses shared))
@@ -336,7 +300,10 @@ search_took s new place packet one kept bottom parts more free takable ascends a
       (named_with_place (inputs_of s.store.clauses) (packets_of s)
       (packets_of new) s.steps.items place packet more free) kept.named);
   trail = kept.trail;
-  cursor = kept.cursor;
+  watched = watched_as added fresh refl refl refl
+      (watched_added s.store.clauses s.store.fresh s.trail.entries s.trail.depth s.trail.looked shared bottom kept.watched);
+  levels = kept.levels;
+  cursors = kept.cursors;
   all_named = kept.all_named;
 })
   where
@@ -344,8 +311,7 @@ search_took s new place packet one kept bottom parts more free takable ascends a
     shared = record { lits = one.clause; tag = one.tag; origin = Shared place (length packet) }
 
     inputs : inputs_of new.store.clauses ≡ inputs_of s.store.clauses
-    inputs = ap inputs_of added ∙ inputs_shared s.store.clauses one.clause one.tag place
-        (length packet)
+    inputs = ap inputs_of added ∙ inputs_beside s.store.clauses shared refl
 
     held : held_of new.store.clauses ≡ held_of s.store.clauses ++ known_clause shared ∷ []
     held = ap held_of added ∙ map_push known_clause s.store.clauses shared
@@ -372,8 +338,8 @@ pub took : (s new : Search) (place : ℕ) (packet : List Step) (one : Known)
     → HasTaken (solver_of s) (solver_of new) place packet one
 took s new place packet one parts more last ascends added = record {
   last = last;
-  inputs = ap inputs_of added ∙ inputs_shared s.store.clauses one.clause one.tag place
-      (length packet);
+  inputs = ap inputs_of added ∙ inputs_beside s.store.clauses
+      (record { lits = one.clause; tag = one.tag; origin = Shared place (length packet) }) refl;
   bound = ap (λ (x : Search). x.bound) parts;
   held = ap held_of added ∙ map_push known_clause s.store.clauses
       (record { lits = one.clause; tag = one.tag; origin = Shared place (length packet) })
@@ -416,7 +382,7 @@ last_within s packet shown kept same takable one is =
     (greatest_of_all (clauses_of (inputs_of s.store.clauses)))
     (λ clause has. among_greatest (clauses_of (inputs_of s.store.clauses)) clause
     (among_inputs (inputs_of s.store.clauses) takable.0.tag clause has)) in
-    omega (arith, ap (λ (x : Known). greatest_of x.clause) one_is, takable.1.within, wide, kept.counted.greatest, kept.room.reserved, kept.room.store)
+    omega (arith, ap (λ (x : Known). greatest_of x.clause) one_is, takable.1.within, wide, kept.counted.greatest_is, kept.room.reserved, kept.room.in_store)
 
 pub takes : (s mid new : Search) (place : ℕ) (packet shown : List Step) → IsSearching s
     → s.trail.depth ≡ 0 → new ≡ record s { store = new.store; packets = new.packets }
@@ -427,6 +393,7 @@ pub takes : (s mid new : Search) (place : ℕ) (packet shown : List Step) → Is
     → IsSearching new × ((one : Known) × HasTaken (solver_of s) (solver_of new) place packet one)
 takes s mid new place packet shown kept bottom parts store holds same takable more free = (
   search_took s new place packet one kept bottom parts more free takable.1 ascends added
+      (ap (λ (x : StoreView). x.fresh) store ∙ holds.fresh)
       (ap (λ (x : StoreView). x.vars) store ∙ holds.vars),
   (one, took s new place packet one parts more takable.1.last ascends added),
 )
@@ -465,24 +432,15 @@ pub search_unplaced : (s new : Search) → IsSearching s
     → packets_of new ≡ packets_of s → IsSearching new
 search_unplaced s new kept parts store packets = subst (λ (x : Search). IsSearching x) (sym (parts ∙ ap (λ (x : StoreView). record s { store = x; packets = new.packets }) store)) (record {
   stock = subst (λ ps. IsStocked s.store.clauses ps s.steps.items s.bound) (sym packets) kept.stock;
-  room = record {
-    over = kept.room.over;
-    reserved = kept.room.reserved;
-    store = kept.room.store;
-    scratch = kept.room.scratch;
-    units = kept.room.units;
-    tags = kept.room.tags;
-  };
-  counted = record {
-    greatest = kept.counted.greatest;
-    inputs = kept.counted.inputs;
-    learnt = kept.counted.learnt;
-  };
+  room = kept.room;
+  counted = kept.counted;
   on = kept.on;
   named = subst (λ ps. IsNamed
       (named_by (inputs_of s.store.clauses) ps s.steps.items) s.trail.entries s.units.items s.tags.items s.named) (sym packets) kept.named;
   trail = kept.trail;
-  cursor = kept.cursor;
+  watched = kept.watched;
+  levels = kept.levels;
+  cursors = kept.cursors;
   all_named = kept.all_named;
 })
 
@@ -509,24 +467,15 @@ search_knows s new place packet kept parts more free is_held = subst (λ (x : Se
     steps_within = kept.stock.steps_within;
     steps_bounded = kept.stock.steps_bounded;
   };
-  room = record {
-    over = kept.room.over;
-    reserved = kept.room.reserved;
-    store = kept.room.store;
-    scratch = kept.room.scratch;
-    units = kept.room.units;
-    tags = kept.room.tags;
-  };
-  counted = record {
-    greatest = kept.counted.greatest;
-    inputs = kept.counted.inputs;
-    learnt = kept.counted.learnt;
-  };
+  room = kept.room;
+  counted = kept.counted;
   on = kept.on;
   named = named_stays (table_of s) (named_by inputs
       (packets_of new) s.steps.items) s.trail.entries s.units.items s.tags.items s.named grows kept.named;
   trail = kept.trail;
-  cursor = kept.cursor;
+  watched = kept.watched;
+  levels = kept.levels;
+  cursors = kept.cursors;
   all_named = kept.all_named;
 })
   where

@@ -1,8 +1,10 @@
 -- The greatest variable of the inputs up to a tag.
-use Rattle.std.proofs.Common.{◌≡◌, ℕ, ◌≤◌, List, [], ◌∷◌, filter, true, ap, subst, inl, inr, arith}
+use Rattle.std.proofs.Common.{◌≡◌, ℕ, zero, suc, ◌+◌, ◌<◌, ◌≤◌, List, [], ◌∷◌, length, filter, true}
+use Rattle.std.proofs.Common.{ap, subst, inl, inr, arith, get_or}
 use Rattle.std.specs.Prelude.{Contains, IsTrue, nat_le}
 use Rattle.std.proofs.lemmas.Bool.Decides.{nat_tests}
-use Rattle.sat_base.specs.Lit.{variable, greatest_of, greatest_of_all}
+use Rattle.sat_base.specs.Lit.{variable, greatest_of, greatest_of_all, is_ascending}
+use Rattle.sat_base.specs.Lit.{ascends_above}
 use Rattle.sat_base.proofs.Members.{Contains-here, Contains-there, Contains-cases, Contains-map}
 use Rattle.sat_base.proofs.Members.{Contains-from_map, Contains-filter}
 use Rattle.trace_core.specs.Known.{Known}
@@ -17,6 +19,23 @@ below_greatest (x ∷ clause) lit has = elim (Contains-cases x lit clause has) [
   | inl same ↦ (let e = ap variable same in omega (arith, e))
   | inr more ↦ (let h = below_greatest clause lit more in omega (arith, h))
 ]
+
+-- the last one of literals that ascend has the greatest variable
+last_highest : (bound : ℕ) (lits : List ℕ) (k d : ℕ) → IsTrue (ascends_above bound lits)
+    → k + 1 ≡ length lits → (greatest_of lits ≡ variable (get_or lits k d)) × (bound < get_or lits k d)
+last_highest bound [] k d up last = absurd (omega (arith, last))
+last_highest bound (x ∷ []) zero d up last = (omega arith, grind (arith, nat_tests))
+last_highest bound (x ∷ []) (suc k) d up last = absurd (omega (arith, last))
+last_highest bound (x ∷ y ∷ lits) zero d up last = absurd (omega (arith, last))
+last_highest bound (x ∷ y ∷ lits) (suc k) d up last =
+    let first : bound < x = grind (arith, nat_tests) in
+    let rest : IsTrue (ascends_above x (y ∷ lits)) = grind (arith, nat_tests) in
+    let later = last_highest x (y ∷ lits) k d rest (omega (arith, last)) in
+    (omega (arith, later.0, later.1), omega (arith, first, later.1))
+
+pub last_greatest : (lits : List ℕ) (k d : ℕ) → IsTrue (is_ascending lits) → k + 1 ≡ length lits
+    → greatest_of lits ≡ variable (get_or lits k d)
+last_greatest lits k d up last = (last_highest 0 lits k d up last).0
 
 pub greatest_within : (clause : List ℕ) (bound : ℕ)
     → ((lit : ℕ) → Contains clause lit → variable lit ≤ bound) → greatest_of clause ≤ bound

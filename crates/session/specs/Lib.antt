@@ -2,6 +2,9 @@ pub mod Solver
 pub mod Fronts
 pub mod Stock
 pub mod OnTrail
+pub mod Cursors
+pub mod Cubes
+pub mod Watched
 pub mod Units
 pub mod Searching
 pub mod Moves

@@ -37,7 +37,3 @@ pub record IsForCube (cube : List ℕ) (entries : List Entry) : Type 0 where
   pub each : (place : ℕ) → place < length entries → 0 < (entry_at entries place).level
       → (entry_at entries place).reason ≡ None
       → IsChoice cube (lits_of (take place entries)) (entry_at entries place).lit
-
--- no decision came that the cube didn't allow, whatever the cube is
-abbrev pub AddsNoDecision : List Entry → List Entry → Type 0
-AddsNoDecision old new = (cube : List ℕ) → IsForCube cube old → IsForCube cube new

@@ -6,22 +6,22 @@ use Rattle.trace_core.specs.Known.{Known}
 use Rattle.session.specs.declared.search.Search.{Search}
 use Rattle.session.specs.declared.rounds.Round.{Round}
 use Rattle.session.specs.declared.rounds.Round.TheVariants.{Model, Refuted, Paused}
-use Rattle.session.specs.OnTrail.{IsForCube}
+use Rattle.session.specs.Cubes.{IsOnCube}
 use Rattle.session.specs.Solver.{IsStep}
 use Rattle.session.specs.Searching.{IsSearching}
 
 -- the variables of the inputs and the cube are the first ones, and reserved
-pub record AreVariables (search : Search) (cube : List ℕ) (vars : ℕ) : Type 0 where
-  pub are : vars ≡ max search.greatest (greatest_of cube)
-  pub reserved : vars ≤ search.trail.vars
+pub record AreVariables (greatest reserved : ℕ) (cube : List ℕ) (vars : ℕ) : Type 0 where
+  pub are : vars ≡ max greatest (greatest_of cube)
+  pub low : vars ≤ reserved
   pub few : vars ≤ 8388607
   pub set : IsLitSet cube
 
 -- What the functions of a round keep for its cube.
 pub record IsInRound (search : Search) (cube : List ℕ) (vars : ℕ) : Type 0 where
   pub kept : IsSearching search
-  pub for_cube : IsForCube cube search.trail.entries
-  pub variables : AreVariables search cube vars
+  pub on_cube : IsOnCube cube search
+  pub variables : AreVariables search.greatest search.trail.vars cube vars
 
 -- a clause that contains none of these
 abbrev pub ContainsNone : List Known → Known → Type 0

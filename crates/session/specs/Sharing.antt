@@ -58,4 +58,5 @@ pub record HoldsLast (old new : Search) (place : ℕ) (packet : List Step) : Typ
   pub set : IsLitSet one.clause
   pub clauses : new.store.clauses ≡ old.store.clauses
       ++ record { lits = one.clause; tag = one.tag; origin = Shared place (length packet) } ∷ []
+  pub fresh : new.store.fresh ≡ old.store.fresh ++ length old.store.clauses ∷ []
   pub vars : new.store.vars ≡ old.store.vars

@@ -6,11 +6,12 @@ ghost use Rattle.sat_base.specs.Lit.{IsLitSet, variable};
 ghost use Rattle.sat_base.specs.declared.origins.Ref.TheVariants.{Own};
 ghost use Rattle.clause_arena.specs.Arena.{lits_of_each};
 ghost use Rattle.trail_core.specs.Trail.{lits_of, up_to};
-ghost use Rattle.trail_core.specs.UnderTrail.{IsForced, IsOpenClause, IsUnassigned};
+ghost use Rattle.trail_core.specs.UnderTrail.{HasOthersFalse, IsOpenClause, IsUnassigned};
 ghost use Rattle.propagate.specs.Store.{AreWithin};
+ghost use Rattle.propagate.specs.Pairing.{IsReady};
 ghost use Rattle.session.specs.Solver.{IsStep};
 ghost use Rattle.session.specs.Searching.{IsSearching, HasSameVariables, IsConflict, solver_of};
-ghost use Rattle.session.specs.OnTrail.{AddsNoDecision};
+ghost use Rattle.session.specs.Cubes.{KeepsCubes};
 ghost use Rattle.session.specs.Lessons.{IsLesson};
 ghost use Rattle.session.specs.Solving.{Keeps, LearnsOne};
 
@@ -39,7 +40,7 @@ pub(crate) fn learn_and_backjump(search: &mut Search, conflict: usize) -> Result
     ensures kept { IsSearching search.new }
     ensures keeps { Keeps (solver_of search.old) (solver_of search.new) }
     ensures variables { HasSameVariables search.old search.new }
-    ensures decisions { AddsNoDecision search.old.trail.entries search.new.trail.entries }
+    ensures cubes { KeepsCubes search.old search.new }
     ensures ok { OnOk result (LearnsOne (solver_of search.old) (solver_of search.new)) }
 {
     let Lesson { clause, back, step } = analyze_conflict(search, conflict)?;
@@ -47,29 +48,10 @@ pub(crate) fn learn_and_backjump(search: &mut Search, conflict: usize) -> Result
     let number = push_step(search, step)?;
     // Back first: where the clause finds no room, the trail stands as it should all the same.
     backjump(search, back);
-    let lit = unassigned(&search.trail, &clause);
-    let id = hold(search, &clause, tag, number)?;
-    if let Some(lit) = lit {
-        assert_literal(search, lit, id);
-    }
-    Ok(())
-}
-
-// Makes the literal true that its reason forces.
-fn assert_literal(search: &mut Search, lit: Lit, id: usize)
-    requires kept { IsSearching search.old }
-    requires within { variable lit ≤ search.old.trail.vars }
-    requires free { IsUnassigned (lits_of search.old.trail.entries) lit }
-    requires forced { IsForced (lits_of_each search.old.store.clauses) search.old.trail.entries
-        (record { lit = lit; level = search.old.trail.depth; reason = Some id }) }
-    ensures kept { IsSearching search.new }
-    ensures parts { search.new ≡ record search.old { trail = search.new.trail } }
-    ensures vars { search.new.trail.vars ≡ search.old.trail.vars }
-    ensures decisions { AddsNoDecision search.old.trail.entries search.new.trail.entries }
-{
-    search.trail.assign(lit, Some(id));
-    // Brings `IsTrail` of the trail with the literal.
-    let _ = search.trail.depth();
+    let Some(lit) = unassigned(&search.trail, &clause) else {
+        unreachable!()
+    };
+    hold(search, &clause, tag, number, lit)
 }
 
 fn analyze_conflict(search: &mut Search, conflict: usize) -> Result<Lesson, AllocError>
@@ -95,9 +77,15 @@ fn analyze_conflict(search: &mut Search, conflict: usize) -> Result<Lesson, Allo
     })
 }
 
-// Adds the clause of an own step to the store, lists the step as learnt, and answers the clause's
-// number.
-fn hold(search: &mut Search, clause: &Clause, tag: u32, number: u64) -> Result<usize, AllocError>
+// Adds the clause of an own step to the store, lists the step as learnt, and makes the literal of
+// the clause true that it forces. After want of memory none of it is done.
+fn hold(
+    search: &mut Search,
+    clause: &Clause,
+    tag: u32,
+    number: u64,
+    lit: Lit,
+) -> Result<(), AllocError>
     requires kept { IsSearching search.old }
     requires step { IsStep search.old.steps.items number
         (record { clause = clause.now; tag = tag }) }
@@ -105,21 +93,31 @@ fn hold(search: &mut Search, clause: &Clause, tag: u32, number: u64) -> Result<u
     requires within { AreWithin search.old.greatest clause.now }
     requires open_below { (level : ℕ) → level < search.old.trail.depth
         → IsOpenClause (lits_of (up_to level search.old.trail.entries)) clause.now }
+    requires free { IsUnassigned (lits_of search.old.trail.entries) lit }
+    requires forced { HasOthersFalse (lits_of search.old.trail.entries) clause.now lit }
+    requires ready { IsReady search.old.trail.entries search.old.trail.depth clause.now }
+    requires nothing_new { 0 < search.old.trail.depth → search.old.store.fresh ≡ [] }
     ensures kept { IsSearching search.new }
     ensures parts { search.new ≡ record search.old {
       store = search.new.store;
+      trail = search.new.trail;
       learnt = search.new.learnt;
     } }
     ensures keeps { Keeps (solver_of search.old) (solver_of search.new) }
-    ensures number { IfOk result (λ id. id ≡ length search.old.store.clauses) }
+    ensures vars { search.new.trail.vars ≡ search.old.trail.vars }
+    ensures cubes { KeepsCubes search.old search.new }
     ensures held { OnOk result (search.new.store.clauses ≡ search.old.store.clauses
         ++ record { lits = clause.now; tag = tag; origin = Own number } ∷ []) }
     ensures listed { OnOk result (search.new.learnt.items ≡ search.old.learnt.items
         ++ number ∷ []) }
 {
+    search.learnt.reserve(1)?;
     let id = search.store.add(clause, tag, Ref::Own(number))?;
-    search.learnt.push(number)?;
-    Ok(id)
+    search.learnt.push_reserved(number);
+    search.trail.assign(lit, Some(id));
+    // Brings `IsTrail` of the trail with the literal.
+    let _ = search.trail.depth();
+    Ok(())
 }
 
 // The first literal of the clause that is unassigned.

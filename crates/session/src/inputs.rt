@@ -1,12 +1,12 @@
 //! Inputs of a search.
 
 ghost use Rattle.std.specs.Prelude.{◌≡◌, ◌+◌, ◌<◌, ◌≤◌, ◌∷◌, [], length, take, OnOk, OnErr};
-ghost use Rattle.sat_base.specs.Lit.{greatest_of, greatest_of_all};
+ghost use Rattle.sat_base.specs.Lit.{IsLitSet, greatest_of, greatest_of_all};
 ghost use Rattle.session.specs.Searching.{IsSearching, solver_of};
 ghost use Rattle.session.specs.Loading.{HasInputsOnly, HasInputsMore, loaded};
 
 use crate::search::Search;
-use sat_base::{Clause, Cube, Ref, greatest_variable};
+use sat_base::{Clause, Cube, Lit, Ref};
 use std::alloc::AllocError;
 
 /// Adds the clauses of the next job behind the inputs, and makes it the job that is loaded. The
@@ -119,6 +119,18 @@ fn grow_tags(tags: &mut Vec<u32>, places: usize) -> Result<(), AllocError>
         return Ok(());
     }
     tags.resize(places, 0)
+}
+
+/// The greatest variable of a set of literals, which ascend by variable; 0 if there is none.
+pub(crate) fn greatest_variable(lits: &[Lit]) -> u32
+    requires { IsLitSet lits.now }
+    ensures { result ≡ greatest_of lits.now }
+{
+    let count = lits.len();
+    if count == 0 {
+        return 0;
+    }
+    lits[count - 1].var()
 }
 
 // The greatest variable of the clauses, 0 if there is none.

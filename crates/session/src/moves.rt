@@ -1,12 +1,15 @@
 //! The next decision.
 
 ghost use Rattle.std.specs.Prelude.{◌≡◌, ℕ, ◌≤◌, ◌<◌, IfSome, IfNone, MatchBool, All, Contains};
+ghost use Rattle.std.specs.Prelude.{take};
 ghost use Rattle.sat_base.specs.Lit.{IsLit, variable};
 ghost use Rattle.trail_core.specs.Trail.{IsTrail, lits_of};
 ghost use Rattle.trail_core.specs.UnderTrail.{IsTrueLit, IsUnassigned};
 ghost use Rattle.session.specs.Moves.{IsMove};
 ghost use Rattle.session.specs.OnTrail.{AreAssigned, IsCubeTrue};
+ghost use Rattle.session.specs.Cursors.{PassesAssigned, PassesTrue};
 
+use crate::search::Cursor;
 use sat_base::{Cube, Lit};
 use trail_core::Trail;
 
@@ -22,37 +25,44 @@ pub(crate) enum Move {
 }
 
 /// The cube's first literal that isn't true comes first, as the next decision where it is
-/// unassigned. Then it is a free variable, and none is left where the trail is a model. All
-/// variables up to the cursor are assigned, before and after.
-pub(crate) fn next_move(trail: &Trail, cursor: &mut u32, cube: &Cube, vars: u32) -> Move
+/// unassigned. Then it is a free variable, and none is left where the trail is a model. The cursor
+/// passes only literals that are true and variables that are assigned, before and after.
+pub(crate) fn next_move(trail: &Trail, cursor: &mut Cursor, cube: &Cube, vars: u32) -> Move
     requires few { vars ≤ 8388607 }
-    requires assigned { AreAssigned (lits_of trail.now.entries) cursor.old }
+    requires passed { PassesTrue cube.now (lits_of trail.now.entries) cursor.old }
+    requires assigned { PassesAssigned (lits_of trail.now.entries) cursor.old }
     requires within { All (λ lit. variable lit ≤ vars) cube.now }
-    ensures assigned { AreAssigned (lits_of trail.now.entries) cursor.new }
+    ensures passed { PassesTrue cube.now (lits_of trail.now.entries) cursor.new }
+    ensures assigned { PassesAssigned (lits_of trail.now.entries) cursor.new }
     ensures next { IsMove (lits_of trail.now.entries) cube.now vars result }
 {
-    if let Some(lit) = first_open(trail, cube) {
+    if let Some(lit) = first_open(trail, &mut cursor.literals, cube) {
         return match trail.value(lit) {
             Some(_) => Move::Blame(lit),
             None => Move::Decide(lit),
         };
     }
-    match next_free(trail, cursor, vars) {
+    match next_free(trail, &mut cursor.variables, vars) {
         Some(lit) => Move::Decide(lit),
         None => Move::Stop,
     }
 }
 
-// The first literal of the cube that isn't true.
-fn first_open(trail: &Trail, cube: &Cube) -> Option<Lit>
+// The first literal of the cube that isn't true. The cursor spares the walk over those before it.
+fn first_open(trail: &Trail, cursor: &mut usize, cube: &Cube) -> Option<Lit>
+    requires passed { All (Contains (lits_of trail.now.entries)) (take cursor.old cube.now) }
+    ensures passed { All (Contains (lits_of trail.now.entries)) (take cursor.new cube.now) }
     ensures some { IfSome result (λ lit. IsLit lit × Contains cube.now lit
         × (IsTrueLit (lits_of trail.now.entries) lit → ⊥)) }
     ensures none { IfNone result (IsCubeTrue (lits_of trail.now.entries) cube.now) }
 {
-    for lit in cube.lits() {
-        if !is_true(trail, *lit) {
-            return Some(*lit);
+    let lits = cube.lits();
+    while *cursor < lits.len() {
+        let lit = lits[*cursor];
+        if !is_true(trail, lit) {
+            return Some(lit);
         }
+        *cursor += 1;
     }
     None
 }

@@ -3,10 +3,11 @@
 ghost use Rattle.std.specs.Prelude.{◌≡◌, ◌≤◌, [], length, IfOk, OnOk, IfSome, IfNone};
 ghost use Rattle.trail_core.specs.UnderTrail.{IsComplete};
 ghost use Rattle.clause_arena.specs.Arena.{lits_of_each};
-ghost use Rattle.session.specs.OnTrail.{AddsNoDecision};
+ghost use Rattle.session.specs.Cubes.{KeepsCubes};
 ghost use Rattle.session.specs.Searching.{IsSearching, HasSameVariables, IsConflict, HasUnitsMore};
 ghost use Rattle.session.specs.Searching.{AreAllNamed, solver_of};
 ghost use Rattle.session.specs.Solving.{Learns};
+ghost use Rattle.session.specs.Watched.{IsSettled};
 
 use crate::naming::name_units;
 use crate::search::Search;
@@ -20,13 +21,15 @@ pub(crate) fn propagate_and_name(search: &mut Search) -> Result<Option<usize>, A
     ensures kept { IsSearching search.new }
     ensures learns { Learns (solver_of search.old) (solver_of search.new) [] [] }
     ensures variables { HasSameVariables search.old search.new }
-    ensures decisions { AddsNoDecision search.old.trail.entries search.new.trail.entries }
+    ensures cubes { KeepsCubes search.old search.new }
     ensures grown { length search.old.trail.entries ≤ length search.new.trail.entries }
     ensures conflict { IfOk result (λ found. IfSome found (IsConflict search.new)) }
     ensures complete { IfOk result (λ found. IfNone found
         (IsComplete search.new.trail.entries search.new.trail.depth
         (lits_of_each search.new.store.clauses))) }
     ensures all_named { IfOk result (λ found. IfNone found (AreAllNamed search.new)) }
+    ensures settled { IfOk result (λ found. IfNone found
+        (IsSettled search.new.store search.new.trail)) }
 {
     let found = propagate(&mut search.store, &mut search.trail);
     // Brings `IsTrail` of the trail with what was forced.

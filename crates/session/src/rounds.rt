@@ -13,10 +13,11 @@
 ghost use Rattle.std.specs.Prelude.{◌≡◌, ℕ, ◌<◌, List, [], length, IfOk, IfSome, IfNone};
 ghost use Rattle.trail_core.specs.UnderTrail.{IsComplete};
 ghost use Rattle.clause_arena.specs.Arena.{lits_of_each};
-ghost use Rattle.session.specs.OnTrail.{AddsNoDecision};
+ghost use Rattle.session.specs.Cubes.{KeepsCubes};
 ghost use Rattle.session.specs.Searching.{IsSearching, AreAllNamed, HasSameVariables, IsConflict};
 ghost use Rattle.session.specs.Searching.{solver_of};
 ghost use Rattle.session.specs.Rounds.{IsInRound};
+ghost use Rattle.session.specs.Watched.{IsSettled};
 ghost use Rattle.session.specs.Descents.{Descends};
 ghost use Rattle.session.specs.Solving.{Concludes, Keeps, Learns, LearnsOne, Solves};
 
@@ -97,7 +98,7 @@ fn resolve_conflict(search: &mut Search, id: usize) -> Result<Option<Round>, All
     ensures kept { IsSearching search.new }
     ensures keeps { Keeps (solver_of search.old) (solver_of search.new) }
     ensures variables { HasSameVariables search.old search.new }
-    ensures decisions { AddsNoDecision search.old.trail.entries search.new.trail.entries }
+    ensures cubes { KeepsCubes search.old search.new }
     ensures ends { IfOk result (λ end. IfSome end
         (λ round. (cube : List ℕ) → Concludes (solver_of search.old)
         (solver_of search.new) cube round)) }
@@ -159,6 +160,7 @@ fn decide_or_answer(
     requires complete { IsComplete search.old.trail.entries search.old.trail.depth
         (lits_of_each search.old.store.clauses) }
     requires all_named { AreAllNamed search.old }
+    requires settled { IsSettled search.old.store search.old.trail }
     ensures round { IsInRound search.new cube.now vars }
     ensures keeps { Keeps (solver_of search.old) (solver_of search.new) }
     ensures ends { IfOk result (λ end. IfSome end (Descends search.old search.new cube.now)) }
@@ -170,7 +172,7 @@ fn decide_or_answer(
 {
     match next_move(&search.trail, &mut search.cursor, cube, vars) {
         Move::Decide(lit) => {
-            decide(search, lit);
+            decide(search, lit)?;
             Ok(None)
         }
         Move::Blame(lit) => {

@@ -14,6 +14,14 @@ use std::sync::Arc;
 use trace_core::{Packet, Step};
 use trail_core::Trail;
 
+/// How far the search for a decision has come, so that it needn't begin anew: so many first literals
+/// of the cube are true, and all variables up to this one are assigned.
+#[derive(Clone, Copy, Debug)]
+pub(crate) struct Cursor {
+    pub(crate) literals: usize,
+    pub(crate) variables: u32,
+}
+
 /// The parts of a solver. What they keep together is said in `specs/Searching.antt`.
 #[derive(Debug, Drop)]
 pub(crate) struct Search {
@@ -27,8 +35,10 @@ pub(crate) struct Search {
     pub(crate) units: Vec<Ref>,
     pub(crate) tags: Vec<u32>,
     pub(crate) named: usize,
-    // All variables up to this one are assigned.
-    pub(crate) cursor: u32,
+    // How far the search for a decision has come, and how far it had come when each level was
+    // opened: item n belongs to level n + 1.
+    pub(crate) cursor: Cursor,
+    pub(crate) cursors: Vec<Cursor>,
     // The greatest variable of the inputs, their number, and the number of the job that is loaded.
     pub(crate) greatest: u32,
     pub(crate) inputs: u32,
@@ -63,7 +73,11 @@ impl Search {
             units: Vec::new(alloc),
             tags: Vec::new(alloc),
             named: 0,
-            cursor: 0,
+            cursor: Cursor {
+                literals: 0,
+                variables: 0,
+            },
+            cursors: Vec::new(alloc),
             greatest: 0,
             inputs: 0,
             bound: 0,

@@ -4,11 +4,11 @@ ghost use Rattle.std.specs.Prelude.{◌≡◌, IfOk};
 ghost use Rattle.session.specs.Searching.{IsSearching, solver_of};
 ghost use Rattle.session.specs.Solving.{Keeps, Solves};
 
-use crate::inputs::reserve;
+use crate::inputs::{greatest_variable, reserve};
 use crate::levels::backjump;
 use crate::rounds::{Round, run_round};
 use crate::search::Search;
-use sat_base::{Cube, greatest_variable};
+use sat_base::Cube;
 use std::alloc::AllocError;
 
 /// One round of at most `limit` learnt clauses on the inputs and the cube: a model of exactly the
@@ -41,6 +41,7 @@ fn solve_deep(search: &mut Search, cube: &Cube, limit: u64) -> Result<Round, All
     let lits = cube.lits();
     let vars = search.greatest.max(greatest_variable(lits));
     reserve(search, vars)?;
+    search.cursor.literals = 0;
     run_round(search, cube, vars, limit)
 }
 

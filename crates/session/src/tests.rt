@@ -280,3 +280,110 @@ fn a_published_clause_spares_another_session_its_search(rt: HostRuntime) -> Resu
     assert_eq!(rt; session.learnt().len(), 0);
     Ok(())
 }
+
+// The clause by which the variable implies the next one.
+fn link(alloc: Global, rt: &impl Abort, var: u32) -> Result<Clause, AllocError>
+    requires low { 1 ≤ var }
+    requires high { var ≤ 3000 }
+{
+    let number = var as i32;
+    clause(alloc, rt, &[-number, number + 1])
+}
+
+// Each of the variables 1 to `2 * pairs` implies the next one. The links of odd variables come
+// first, then those of the even ones from the last on, so that a look at all clauses finds few that
+// force something.
+fn chain(alloc: Global, rt: &impl Abort, pairs: u32) -> Result<Vec<Clause>, AllocError>
+    requires { pairs ≤ 1500 }
+{
+    let mut clauses = Vec::new(alloc);
+    for pair in 0..pairs {
+        clauses.push(link(alloc, rt, 2 * pair + 1)?)?;
+    }
+    for pair in 0..pairs {
+        clauses.push(link(alloc, rt, 2 * (pairs - pair))?)?;
+    }
+    Ok(clauses)
+}
+
+#[derive(Clone, Copy)]
+struct ChainRow {
+    // Half the number of implications.
+    pairs: u32,
+    // The variables behind them that no clause has.
+    free: u32,
+    // How many variables are true in the model.
+    trues: usize,
+}
+
+const CHAIN_ROWS: [ChainRow; 3] = [
+    ChainRow {
+        pairs: 0,
+        free: 2000,
+        trues: 2,
+    },
+    ChainRow {
+        pairs: 1500,
+        free: 0,
+        trues: 3002,
+    },
+    ChainRow {
+        pairs: 1500,
+        free: 2000,
+        trues: 3002,
+    },
+];
+
+// The first variable and the last one are assumed.
+fn solve_chain(rt: &impl Abort, alloc: Global, row: ChainRow) -> Result<(), Fail> {
+    assert!(rt; row.pairs <= 1500);
+    assert!(rt; row.free <= 2000);
+    let last = 2 * row.pairs + row.free + 2;
+    let clauses = chain(alloc, rt, row.pairs)?;
+    let given = cube(alloc, rt, &[1, last as i32])?;
+    let mut session = start(alloc, rt, clauses.as_slice(), &given)?;
+    match session.solve(&given, 1)? {
+        Round::Model(model) => {
+            let values = model.values();
+            assert_eq!(rt; values.len(), last as usize);
+            assert_eq!(rt; values.iter().filter(|value| **value).count(), row.trues);
+        }
+        _ => panic!(rt; "no model"),
+    }
+    Ok(())
+}
+
+#[test]
+fn a_long_chain_and_many_free_variables_end_soon(rt: HostRuntime) -> Result<(), Fail> {
+    for row in CHAIN_ROWS {
+        solve_chain(&rt, rt.alloc(), row)?;
+    }
+    Ok(())
+}
+
+// The cube of the positive literals of so many variables.
+fn assumed(alloc: Global, rt: &impl Abort, count: u32) -> Result<Cube, AllocError>
+    requires { count ≤ 8388607 }
+{
+    let mut lits = Vec::new(alloc);
+    for var in 1..count + 1 {
+        lits.push(Lit::of(var as i32).expect(rt, "a literal"))?;
+    }
+    Cube::from_lits(alloc, &lits)
+}
+
+// To look through the cube from its first literal on at each decision would take minutes.
+#[test]
+fn a_cube_of_many_literals_is_walked_once(rt: HostRuntime) -> Result<(), Fail> {
+    let alloc = rt.alloc();
+    let given = assumed(alloc, &rt, 500_000)?;
+    let mut session = start(alloc, &rt, &[], &given)?;
+    match session.solve(&given, 1)? {
+        Round::Model(model) => {
+            assert!(rt; model.values().len() == 500_000);
+            assert!(rt; model.values().iter().all(|value| *value));
+        }
+        _ => panic!(rt; "no model"),
+    }
+    Ok(())
+}

@@ -8,9 +8,9 @@ pub returns-in_err-reserve-2-clause-kept : goal.returns-in_err-reserve-2-clause-
 returns-in_err-reserve-2-clause-kept c =
     let s = c.args.search.now in
     let room = c.requires.kept.room in
-    search_reserved s c.reserve.new.self c.reserve-2.new.self s.units s.tags s.trail c.requires.kept c.requires.kept.trail c.in_ok-reserve.ensures.clauses refl refl (omega arith)
-    (omega (arith, room.store, c.in_ok-reserve.ensures.ok))
-    (omega (arith, room.scratch, c.in_err-reserve-2.ensures.err)) room.units room.tags
+    search_reserved s c.reserve.new.self c.reserve-2.new.self s.units s.tags s.trail c.requires.kept c.requires.kept.trail c.in_ok-reserve.ensures.clauses c.reserve.ensures.fresh refl refl refl (omega arith)
+    (omega (arith, room.in_store, c.in_ok-reserve.ensures.ok))
+    (omega (arith, room.in_scratch, c.in_err-reserve-2.ensures.err)) room.in_units room.in_tags
     (take_all (length s.units.items) s.units.items (omega arith))
     (take_all (length s.tags.items) s.tags.items (omega arith))
 
@@ -19,11 +19,11 @@ returns-in_err-grow_units-clause-kept c =
     let s = c.args.search.now in
     let room = c.requires.kept.room in
     let front = c.grow_units.ensures.front in
-    search_reserved s c.reserve.new.self c.reserve-2.new.self c.grow_units.new.units s.tags s.trail c.requires.kept c.requires.kept.trail c.in_ok-reserve.ensures.clauses refl refl (omega arith)
-    (omega (arith, room.store, c.in_ok-reserve.ensures.ok))
-    (omega (arith, room.scratch, c.in_ok-reserve-2.ensures.ok))
+    search_reserved s c.reserve.new.self c.reserve-2.new.self c.grow_units.new.units s.tags s.trail c.requires.kept c.requires.kept.trail c.in_ok-reserve.ensures.clauses c.reserve.ensures.fresh refl refl refl (omega arith)
+    (omega (arith, room.in_store, c.in_ok-reserve.ensures.ok))
+    (omega (arith, room.in_scratch, c.in_ok-reserve-2.ensures.ok))
     (let more = longer s.units.items c.grow_units.new.units.items front in omega
-    (arith, more, room.units)) room.tags
+    (arith, more, room.in_units)) room.in_tags
     front (take_all (length s.tags.items) s.tags.items (omega arith))
 
 pub returns-in_err-grow_tags-clause-kept : goal.returns-in_err-grow_tags-clause-kept
@@ -32,13 +32,13 @@ returns-in_err-grow_tags-clause-kept c =
     let room = c.requires.kept.room in
     let front = c.grow_units.ensures.front in
     let tags_front = c.grow_tags.ensures.front in
-    search_reserved s c.reserve.new.self c.reserve-2.new.self c.grow_units.new.units c.grow_tags.new.tags s.trail c.requires.kept c.requires.kept.trail c.in_ok-reserve.ensures.clauses refl refl (omega arith)
-    (omega (arith, room.store, c.in_ok-reserve.ensures.ok))
-    (omega (arith, room.scratch, c.in_ok-reserve-2.ensures.ok))
+    search_reserved s c.reserve.new.self c.reserve-2.new.self c.grow_units.new.units c.grow_tags.new.tags s.trail c.requires.kept c.requires.kept.trail c.in_ok-reserve.ensures.clauses c.reserve.ensures.fresh refl refl refl (omega arith)
+    (omega (arith, room.in_store, c.in_ok-reserve.ensures.ok))
+    (omega (arith, room.in_scratch, c.in_ok-reserve-2.ensures.ok))
     (let more = longer s.units.items c.grow_units.new.units.items front in omega
-    (arith, more, room.units))
+    (arith, more, room.in_units))
     (let more = longer s.tags.items c.grow_tags.new.tags.items tags_front in omega
-    (arith, more, room.tags)) front tags_front
+    (arith, more, room.in_tags)) front tags_front
 
 pub returns-in_err-reserve-3-clause-kept : goal.returns-in_err-reserve-3-clause-kept
 returns-in_err-reserve-3-clause-kept c =
@@ -47,13 +47,13 @@ returns-in_err-reserve-3-clause-kept c =
     let front = c.grow_units.ensures.front in
     let tags_front = c.grow_tags.ensures.front in
     let vars = ap (λ (t : TrailView). t.vars) c.in_err-reserve-3.ensures.err in
-    search_reserved s c.reserve.new.self c.reserve-2.new.self c.grow_units.new.units c.grow_tags.new.tags c.reserve-3.new.self c.requires.kept (subst IsTrail (sym c.in_err-reserve-3.ensures.err) c.requires.kept.trail) c.in_ok-reserve.ensures.clauses c.in_err-reserve-3.ensures.entries c.in_err-reserve-3.ensures.depth (omega (arith, vars))
-    (omega (arith, vars, room.store, c.in_ok-reserve.ensures.ok))
-    (omega (arith, vars, room.scratch, c.in_ok-reserve-2.ensures.ok))
+    search_reserved s c.reserve.new.self c.reserve-2.new.self c.grow_units.new.units c.grow_tags.new.tags c.reserve-3.new.self c.requires.kept (subst IsTrail (sym c.in_err-reserve-3.ensures.err) c.requires.kept.trail) c.in_ok-reserve.ensures.clauses c.reserve.ensures.fresh c.in_err-reserve-3.ensures.entries c.in_err-reserve-3.ensures.depth c.in_err-reserve-3.ensures.looked (omega (arith, vars))
+    (omega (arith, vars, room.in_store, c.in_ok-reserve.ensures.ok))
+    (omega (arith, vars, room.in_scratch, c.in_ok-reserve-2.ensures.ok))
     (let more = longer s.units.items c.grow_units.new.units.items front in omega
-    (arith, vars, more, room.units))
+    (arith, vars, more, room.in_units))
     (let more = longer s.tags.items c.grow_tags.new.tags.items tags_front in omega
-    (arith, vars, more, room.tags)) front tags_front
+    (arith, vars, more, room.in_tags)) front tags_front
 
 pub returns-clause-kept : goal.returns-clause-kept
 returns-clause-kept c =
@@ -62,10 +62,10 @@ returns-clause-kept c =
     let front = c.grow_units.ensures.front in
     let tags_front = c.grow_tags.ensures.front in
     let vars = c.in_ok-reserve-3.ensures.ok in
-    search_reserved s c.reserve.new.self c.reserve-2.new.self c.grow_units.new.units c.grow_tags.new.tags c.reserve-3.new.self c.requires.kept c.depth.ensures.trail c.in_ok-reserve.ensures.clauses c.in_ok-reserve-3.ensures.entries c.in_ok-reserve-3.ensures.depth (omega (arith, vars))
-    (omega (arith, vars, room.store, c.in_ok-reserve.ensures.ok))
-    (omega (arith, vars, room.scratch, c.in_ok-reserve-2.ensures.ok))
+    search_reserved s c.reserve.new.self c.reserve-2.new.self c.grow_units.new.units c.grow_tags.new.tags c.reserve-3.new.self c.requires.kept c.depth.ensures.trail c.in_ok-reserve.ensures.clauses c.reserve.ensures.fresh c.in_ok-reserve-3.ensures.entries c.in_ok-reserve-3.ensures.depth c.in_ok-reserve-3.ensures.looked (omega (arith, vars))
+    (omega (arith, vars, room.in_store, c.in_ok-reserve.ensures.ok))
+    (omega (arith, vars, room.in_scratch, c.in_ok-reserve-2.ensures.ok))
     (let more = longer s.units.items c.grow_units.new.units.items front in omega
-    (arith, vars, more, room.units, c.in_ok-grow_units.ensures.ok))
+    (arith, vars, more, room.in_units, c.in_ok-grow_units.ensures.ok))
     (let more = longer s.tags.items c.grow_tags.new.tags.items tags_front in omega
-    (arith, vars, more, room.tags, c.in_ok-grow_tags.ensures.ok)) front tags_front
+    (arith, vars, more, room.in_tags, c.in_ok-grow_tags.ensures.ok)) front tags_front

@@ -1,15 +1,21 @@
-use Rattle.std.proofs.Common.{sym, subst}
-use Rattle.session.specs.OnTrail.{IsForCube}
+use Rattle.std.proofs.Common.{◌≡◌, arith}
+use Rattle.std.proofs.lemmas.List.{get_or_read}
+use Rattle.session.specs.Cursors.{cursor_at}
 use Rattle.session.proofs.Learnings.{search_back}
-use Rattle.session.proofs.OnTrails.{cube_back}
+use Rattle.session.proofs.OnCubes.{on_cube_back}
 use Rattle.session.proofs.levels.backjump.Goals as goal
+
+cursor_read : (c : goal.After-depth) → c.index.result.now ≡ cursor_at c.args.search.now.cursors.items c.args.level
+cursor_read c = get_or_read c.args.search.now.cursors.items c.args.level c.index.result.now
+    (omega (arith, c.requires.within, c.requires.kept.levels)) c.index.ensures
+    (record { literals = 0; variables = 0 })
 
 pub returns-clause-kept : goal.returns-clause-kept
 returns-clause-kept c =
-    search_back c.args.search.now c.back_to.new.self c.args.level c.requires.kept c.depth.ensures.trail c.requires.within c.requires.deep c.back_to.ensures.entries c.back_to.ensures.depth c.back_to.ensures.vars
+    search_back c.args.search.now c.back_to.new.self c.args.level _ c.truncate.new.self c.requires.kept c.depth.ensures.trail c.requires.within c.back_to.ensures.entries c.back_to.ensures.depth c.back_to.ensures.vars c.back_to.ensures.looked
+    (cursor_read c) c.truncate.ensures.items c.requires.nothing_new
 
-pub returns-clause-decisions : goal.returns-clause-decisions
-returns-clause-decisions c = λ cube for_cube.
-    let s = c.args.search.now in
-    subst (IsForCube cube) (sym c.back_to.ensures.entries)
-    (cube_back cube s.trail.entries c.args.level c.requires.kept.trail.ascending for_cube)
+pub returns-clause-cubes : goal.returns-clause-cubes
+returns-clause-cubes c =
+    on_cube_back c.args.search.now c.back_to.new.self c.args.level _ c.truncate.new.self c.requires.kept c.requires.within c.back_to.ensures.entries c.back_to.ensures.depth
+    (cursor_read c) c.truncate.ensures.items

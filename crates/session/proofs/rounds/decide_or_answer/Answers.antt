@@ -5,7 +5,8 @@ use Rattle.session.specs.Searching.{solver_of}
 use Rattle.session.proofs.UpTo.{below_greatest}
 use Rattle.session.proofs.Modelled.{model_of}
 use Rattle.session.proofs.Keeping.{learns_decided}
-use Rattle.session.proofs.Keeping.{model_concludes, refuted_concludes, round_decided, round_moved}
+use Rattle.session.proofs.Keeping.{model_concludes, refuted_concludes, round_chosen, round_moved}
+use Rattle.session.proofs.Keeping.{round_stepped}
 use Rattle.session.specs.declared.search.Search.{Search}
 use Rattle.session.proofs.rounds.decide_or_answer.Goals as goal
 
@@ -15,19 +16,40 @@ next_move-requires-clause-within c =
     (λ lit has. (let low = below_greatest c.args.cube.now lit has in omega
     (arith, low, c.requires.round.variables.are)))
 
-pub returns-in-Decide-clause-round : goal.returns-in-Decide-clause-round
-returns-in-Decide-clause-round c =
-    let s = c.args.search.now in
-    let mid : Search = record s { cursor = c.next_move.new.cursor } in
-    round_decided mid c.decide.new.search c.args.cube.now c.args.vars
-    (round_moved s c.next_move.new.cursor c.args.cube.now c.args.vars c.requires.round c.next_move.ensures.assigned)
-    c.decide.ensures.parts c.decide.ensures.vars c.decide.ensures.kept
-    (c.decide.ensures.decision c.args.cube.now c.in-Decide.ensures.next.allowed c.requires.round.for_cube)
+pub returns-in_err-decide-in-Decide-clause-round : goal.returns-in_err-decide-in-Decide-clause-round
+returns-in_err-decide-in-Decide-clause-round c =
+    let e = c.in_err-decide-in-Decide.ensures in
+    round_chosen c.args.search.now c.decide.new.search c.next_move.new.cursor c.args.cube.now c.args.vars c.requires.round c.next_move.ensures.passed c.next_move.ensures.assigned e.parts e.vars e.kept
+    (e.cube c.args.cube.now c.in-Decide.ensures.next.allowed)
 
-pub returns-in-Decide-clause-learns : goal.returns-in-Decide-clause-learns
-returns-in-Decide-clause-learns c =
+pub returns-in_ok-decide-in-Decide-clause-round : goal.returns-in_ok-decide-in-Decide-clause-round
+returns-in_ok-decide-in-Decide-clause-round c =
+    let e = c.in_ok-decide-in-Decide.ensures in
+    round_chosen c.args.search.now c.decide.new.search c.next_move.new.cursor c.args.cube.now c.args.vars c.requires.round c.next_move.ensures.passed c.next_move.ensures.assigned e.parts e.vars e.kept
+    (e.cube c.args.cube.now c.in-Decide.ensures.next.allowed)
+
+pub returns-in_ok-decide-in-Decide-clause-learns : goal.returns-in_ok-decide-in-Decide-clause-learns
+returns-in_ok-decide-in-Decide-clause-learns c =
     let mid : Search = record c.args.search.now { cursor = c.next_move.new.cursor } in
     learns_decided mid c.decide.new.search c.decide.ensures.parts
+
+pub returns-in_err-part-in-Blame-clause-round : goal.returns-in_err-part-in-Blame-clause-round
+returns-in_err-part-in-Blame-clause-round c =
+    let e = c.in_err-part-in-Blame.ensures in
+    let s = c.args.search.now in
+    let cursor = c.next_move.new.cursor in
+    round_stepped (record s { cursor = cursor }) c.refute_literal.new.search c.args.cube.now c.args.vars
+    (round_moved s cursor c.args.cube.now c.args.vars c.requires.round c.next_move.ensures.passed c.next_move.ensures.assigned)
+    e.parts e.kept
+
+pub returns-in_ok-part-in-Blame-clause-round : goal.returns-in_ok-part-in-Blame-clause-round
+returns-in_ok-part-in-Blame-clause-round c =
+    let e = c.in_ok-part-in-Blame.ensures in
+    let s = c.args.search.now in
+    let cursor = c.next_move.new.cursor in
+    round_stepped (record s { cursor = cursor }) c.refute_literal.new.search c.args.cube.now c.args.vars
+    (round_moved s cursor c.args.cube.now c.args.vars c.requires.round c.next_move.ensures.passed c.next_move.ensures.assigned)
+    e.parts e.kept
 
 pub returns-in_ok-part-in-Blame-clause-ends : goal.returns-in_ok-part-in-Blame-clause-ends
 returns-in_ok-part-in-Blame-clause-ends c =
@@ -35,7 +57,7 @@ returns-in_ok-part-in-Blame-clause-ends c =
     refuted_concludes (solver_of c.args.search.now)
     (solver_of c.refute_literal.new.search) c.args.cube.now c.in_ok-part-in-Blame.part c.in_ok-part-in-Blame.number
     (ap solver_of e.parts) e.last
-    (e.answer c.args.cube.now c.requires.round.for_cube c.in-Blame.ensures.next.stands)
+    (e.answer c.args.cube.now c.requires.round.on_cube.decisions c.in-Blame.ensures.next.stands)
 
 pub returns-in_ok-model-in-Stop-clause-ends : goal.returns-in_ok-model-in-Stop-clause-ends
 returns-in_ok-model-in-Stop-clause-ends c =

@@ -11,17 +11,17 @@ use Rattle.session.proofs.rounds.propagate_and_decide.Goals as goal
 pub returns-in_err-id-clause-round : goal.returns-in_err-id-clause-round
 returns-in_err-id-clause-round c =
     let e = c.propagate_and_name.ensures in
-    round_stays c.args.search.now c.propagate_and_name.new.search c.args.cube.now c.args.vars c.requires.round e.kept e.variables (e.decisions c.args.cube.now c.requires.round.for_cube)
+    round_stays c.args.search.now c.propagate_and_name.new.search c.args.cube.now c.args.vars c.requires.round e.kept e.variables (e.cubes c.args.cube.now c.requires.round.on_cube)
 
 pub returns-in-Some-clause-round : goal.returns-in-Some-clause-round
 returns-in-Some-clause-round c =
     let e = c.propagate_and_name.ensures in
-    round_stays c.args.search.now c.propagate_and_name.new.search c.args.cube.now c.args.vars c.requires.round e.kept e.variables (e.decisions c.args.cube.now c.requires.round.for_cube)
+    round_stays c.args.search.now c.propagate_and_name.new.search c.args.cube.now c.args.vars c.requires.round e.kept e.variables (e.cubes c.args.cube.now c.requires.round.on_cube)
 
 pub decide_or_answer-requires-clause-round : goal.decide_or_answer-requires-clause-round
 decide_or_answer-requires-clause-round c =
     let e = c.propagate_and_name.ensures in
-    round_stays c.args.search.now c.propagate_and_name.new.search c.args.cube.now c.args.vars c.requires.round e.kept e.variables (e.decisions c.args.cube.now c.requires.round.for_cube)
+    round_stays c.args.search.now c.propagate_and_name.new.search c.args.cube.now c.args.vars c.requires.round e.kept e.variables (e.cubes c.args.cube.now c.requires.round.on_cube)
 
 pub returns-in_err-id-clause-keeps : goal.returns-in_err-id-clause-keeps
 returns-in_err-id-clause-keeps c = learns_keeps (solver_of c.args.search.now)

@@ -41,5 +41,6 @@ returns-clause-held c =
       clauses = c.in_ok-add.ensures.ok ∙ ap (λ n. c.args.search.now.store.clauses
           ++ record { lits = step.clause; tag = step.tag; origin = Shared c.args.place n } ∷ [])
           (ap length are);
+      fresh = c.in_ok-add.ensures.fresh;
       vars = c.in_ok-add.ensures.vars;
     }

@@ -1,10 +1,13 @@
-use Rattle.std.proofs.Common.{◌∙◌, ap, sym, subst, arith}
+use Rattle.std.proofs.Common.{◌∙◌, refl, ap, sym, subst, arith}
 use Rattle.std.specs.Prelude.{IfOk, max}
 use Rattle.sat_base.specs.Lit.{greatest_of}
 use Rattle.session.specs.Solver.{Solver}
 use Rattle.session.specs.Solving.{Keeps, Solves}
 use Rattle.session.specs.Searching.{solver_of}
-use Rattle.session.proofs.OnTrails.{cube_at_zero}
+use Rattle.session.specs.declared.search.Cursor.{Cursor}
+use Rattle.session.specs.declared.search.Search.{Search}
+use Rattle.session.proofs.Keeping.{search_moved}
+use Rattle.session.proofs.OnCubes.{on_cube_at_zero}
 use Rattle.session.proofs.Solved.{few_variables, few_in_cube}
 use Rattle.session.proofs.solving.solve_deep.Goals as goal
 
@@ -12,18 +15,20 @@ pub run_round-requires : goal.run_round-requires
 run_round-requires c =
     let s = c.args.search.now in
     let mid = c.reserve.new.search in
+    let cursor : Cursor = record { literals = 0; variables = mid.cursor.variables } in
+    let begun : Search = record mid { cursor = cursor } in
     let e = c.in_ok-reserve.ensures in
     let low = few_variables s c.requires.kept in
     let low_cube = few_in_cube c.args.cube.now c.lits-lits.ensures.set in
     let of_cube = c.greatest_variable.ensures ∙ ap greatest_of c.lits-lits.ensures.value in
     record {
       round = record {
-        kept = e.kept;
-        for_cube = cube_at_zero mid.trail c.args.cube.now e.kept.trail (e.depth ∙ c.requires.zero);
+        kept = search_moved mid cursor mid.cursors e.kept refl e.kept.cursors.present;
+        on_cube = on_cube_at_zero c.args.cube.now begun e.kept.trail (e.depth ∙ c.requires.zero) refl;
         variables = record {
           are = c.max-vars.ensures ∙ ap (λ n. max n c.greatest_variable.result) (sym e.numbers.0)
               ∙ ap (max mid.greatest) of_cube;
-          reserved = e.ok;
+          low = e.ok;
           few = omega (arith, c.max-vars.ensures, low, low_cube, of_cube);
           set = c.lits-lits.ensures.set;
         };

@@ -4,7 +4,7 @@ use Rattle.session.proofs.session.Session.load.Goals as goal
 
 pub load-requires-clause-few : goal.load-requires-clause-few
 load-requires-clause-few c =
-    let count = c.self.invariant.kept.counted.inputs in
+    let count = c.self.invariant.kept.counted.inputs_are in
     omega (
       arith,
       c.requires.clauses,
