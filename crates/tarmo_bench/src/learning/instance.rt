@@ -2,7 +2,7 @@
 
 ghost use Rattle.std.specs.Prelude.{◌≡◌, ◌≤◌, ℕ, IfOk, IfSome, IsTrue};
 ghost use Rattle.sat_base.specs.Limits.{greatest_variable};
-ghost use Rattle.propagate.specs.Store.{AreWithin};
+ghost use Rattle.propagate.specs.Store.{AreWithin, AreNewFrom};
 ghost use Rattle.tarmo_bench.specs.Prepared.{IsPrepared};
 
 use crate::learning::search::conflict_of;
@@ -41,45 +41,50 @@ fn is_within(clause: &Clause, vars: u32) -> bool
     clause.lits().iter().all(|lit| lit.var() <= vars)
 }
 
-// Adds the clause of these numbers under this name, if its variables are reserved.
-fn add(
-    alloc: Global,
-    vars: u32,
-    store: &mut Store,
-    numbers: &[i32],
-    name: Ref,
-) -> Result<(), AllocError>
-    requires { store.old.vars ≡ vars }
-    ensures { store.new.vars ≡ vars }
-{
+// The clause of these numbers.
+fn clause_of(alloc: Global, numbers: &[i32]) -> Result<Clause, AllocError> {
     let mut lits = Vec::new(alloc);
     for number in numbers {
         if let Some(lit) = Lit::of(*number) {
             lits.push(lit)?;
         }
     }
-    let clause = Clause::from_lits(alloc, &lits)?;
-    if is_within(&clause, vars) {
-        store.add(&clause, 1, name)?;
+    Clause::from_lits(alloc, &lits)
+}
+
+// Adds the clause under this name to a store whose clauses are all new, if its variables are
+// reserved.
+fn add(store: &mut Store, vars: u32, clause: &Clause, name: Ref) -> Result<(), AllocError>
+    requires vars { store.old.vars ≡ vars }
+    requires all_new { AreNewFrom store.old 0 }
+    ensures vars { store.new.vars ≡ vars }
+    ensures all_new { AreNewFrom store.new 0 }
+{
+    if !is_within(clause, vars) {
+        return Ok(());
     }
+    store.add(clause, 1, name)?;
     Ok(())
 }
 
 // The pigeons, and a clause of one literal for each further variable.
 fn load(alloc: Global, vars: u32) -> Result<Store, AllocError>
     requires { vars ≤ greatest_variable }
-    ensures { IfOk result (λ store. store.vars ≡ vars) }
+    ensures vars { IfOk result (λ store. store.vars ≡ vars) }
+    ensures all_new { IfOk result (λ store. AreNewFrom store 0) }
 {
     let mut store = Store::new(alloc);
     store.reserve(vars)?;
     let mut number = 0u32;
     for pair in &PIGEONS {
         number = number.saturating_add(1);
-        add(alloc, vars, &mut store, pair.as_slice(), Ref::Input(number))?;
+        let clause = clause_of(alloc, pair.as_slice())?;
+        add(&mut store, vars, &clause, Ref::Input(number))?;
     }
     for var in 7..=vars {
         number = number.saturating_add(1);
-        add(alloc, vars, &mut store, &[var as i32], Ref::Input(number))?;
+        let clause = clause_of(alloc, &[var as i32])?;
+        add(&mut store, vars, &clause, Ref::Input(number))?;
     }
     Ok(store)
 }

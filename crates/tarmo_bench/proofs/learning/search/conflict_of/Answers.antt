@@ -1,6 +1,14 @@
 use Rattle.std.proofs.Common.{refl}
+use Rattle.std.specs.Prelude.{None}
+use Rattle.propagate.proofs.Rounds.{fit_decided}
 use Rattle.analyze.proofs.Decided.{below_decision, conflict_then}
 use Rattle.tarmo_bench.proofs.learning.search.conflict_of.Goals as goal
+
+pub propagate-requires-clause-paired : goal.propagate-requires-clause-paired
+propagate-requires-clause-paired c =
+    (fit_decided c.begin.new.store c.begin.new.trail c.open_level.new.self c.assign.new.self c.args.lit
+    None (c.if-not-begin.ensures.settled refl) c.open_level.ensures.entries c.open_level.ensures.looked
+    c.assign.ensures.entries c.assign.ensures.depth c.assign.ensures.looked).paired
 
 pub returns-clause-conflict : goal.returns-clause-conflict
 returns-clause-conflict c =
