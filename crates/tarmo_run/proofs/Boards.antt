@@ -117,6 +117,20 @@ settled_stay old new more all job there =
       added = subst (λ n. job ≤ n) (ap length more.segments) there.added;
     }))
 
+same_some : {X : Type 0} (old new : Option X) → ((x : X) → old ≡ Some x → new ≡ Some x) →
+    IsSome old → new ≡ old
+same_some None new kept some = absurd (cc)
+same_some (Some x) new kept some = kept x refl
+
+-- a job that is settled has the same verdict on a longer board
+pub one_same : (old new : State) (job : ℕ) → IsLonger old new →
+    IsSome (settled old.rules old.journal job) →
+    settled new.rules new.journal job ≡ settled old.rules old.journal job
+one_same old new job longer some =
+    same_some (settled old.rules old.journal job) (settled new.rules new.journal job)
+    (λ given is. ap (λ (rules : Rules). settled rules new.journal job) longer.rules
+    ∙ (keeps old new longer).verdicts job given is) some
+
 -- a job that is settled stays so on a longer board
 pub one_stays : (old new : State) (job : ℕ) → IsLonger old new →
     IsSome (settled old.rules old.journal job) → IsSome (settled new.rules new.journal job)

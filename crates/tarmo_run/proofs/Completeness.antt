@@ -19,8 +19,10 @@ use Rattle.tarmo_run.specs.declared.endings.Ending.{Ending}
 use Rattle.tarmo_run.specs.declared.endings.Ending.TheVariants.{Complete, Refused, Unread}
 use Rattle.tarmo_run.specs.declared.endings.Ending.TheVariants.{Exhausted}
 use Rattle.tarmo_run.specs.Asking.{rules_of}
-use Rattle.words.specs.Accepted.{Asked}
+use Rattle.words.specs.Accepted.{Asked, Input, OfSum, OfText, input_of}
+use Rattle.words.specs.declared.command.Work.{Work}
 use Rattle.tarmo_run.specs.Block.{AreBlocks}
+use Rattle.tarmo_run.specs.Body.{OfBlocks}
 use Rattle.tarmo_run.specs.Output.{IsAnswered, IsEnding, IsOutput, IsRun, PutFirst, PutQueries}
 use Rattle.tarmo_run.specs.Output.{UnlessExhausted, WroteAll, WroteFront, ending_by, is_one_so}
 use Rattle.tarmo_run.specs.Output.{is_starved, last_line_of, queries_in, status_of, unnumbered}
@@ -70,12 +72,12 @@ by_ending : (trace : Bool) (ending : Ending) (board : State) (status : ℕ) (tex
     (left_after : Option (List ℕ)) (ended failed : Bool) (before after : Option (List ℕ)) →
     Some text ≡ followed_by bytes left_after → (ended ≡ true → IsEmptyWhereTold left_after) →
     failed ≡ false →
-    (w : WroteAll trace (record { bytes = bytes; ended = ended; failed = failed }) board before
+    (w : WroteAll (OfBlocks trace) (record { bytes = bytes; ended = ended; failed = failed }) board before
     after status) → w.ending ≡ ending →
     IsAnswered trace text before after status board ⊎ (status ≡ 6)
 by_ending trace (Complete count) board status text bytes left_after ended failed before after gave
     whole unfailed w is =
-    let o = subst (λ (e : Ending). IsOutput trace e
+    let o = subst (λ (e : Ending). IsOutput (OfBlocks trace) e
     (record { bytes = bytes; ended = ended; failed = failed }) board w.text) is w.output in
     let all : bytes ≡ text = all_given text bytes left_after gave (whole o.ends.1) in
     let same : queries_in bytes ended ≡ queries_in text true =
@@ -90,15 +92,15 @@ by_ending trace (Complete count) board status text bytes left_after ended failed
           (subst (λ (e : Ending). UnlessExhausted e (w.left ≡ [])) is w.all_put) w.put;
       all_settled = subst (λ (e : Ending). UnlessExhausted e ((job : ℕ) → IsJob board job →
           IsSome (settled board.rules board.journal job))) is w.all_settled;
-      blocks = o.blocks;
-      right = subst (λ n. AreBlocks trace board n o.blocks) o.all o.right;
+      blocks = o.lines;
+      right = subst (λ n. AreBlocks trace board n o.lines) o.right.all o.right.right;
       taken = w.taken ∙ ap (appended before) (o.written
-          ∙ ap (λ (ending : Ending). o.blocks ++ last_line_of ending) ends);
+          ∙ ap (λ (ending : Ending). o.lines ++ last_line_of ending) ends);
       told = w.told ∙ ap (λ (e : Ending). status_of e board) (is ∙ ends);
     })
 by_ending trace (Refused fault) board status text bytes left_after ended failed before after gave
     whole unfailed w is =
-    let o = subst (λ (e : Ending). IsOutput trace e
+    let o = subst (λ (e : Ending). IsOutput (OfBlocks trace) e
     (record { bytes = bytes; ended = ended; failed = failed }) board w.text) is w.output in
     let found = found_in ended text bytes left_after fault gave whole o.ends.1 in
     let same : queries_in bytes ended ≡ queries_in text true =
@@ -110,10 +112,10 @@ by_ending trace (Refused fault) board status text bytes left_after ended failed 
           (subst (λ (e : Ending). UnlessExhausted e (w.left ≡ [])) is w.all_put) w.put;
       all_settled = subst (λ (e : Ending). UnlessExhausted e ((job : ℕ) → IsJob board job →
           IsSome (settled board.rules board.journal job))) is w.all_settled;
-      blocks = o.blocks;
-      right = subst (λ n. AreBlocks trace board n o.blocks) o.all o.right;
+      blocks = o.lines;
+      right = subst (λ n. AreBlocks trace board n o.lines) o.right.all o.right.right;
       taken = w.taken ∙ ap (appended before) (o.written
-          ∙ ap (λ (ending : Ending). o.blocks ++ last_line_of ending) ends);
+          ∙ ap (λ (ending : Ending). o.lines ++ last_line_of ending) ends);
       told = w.told ∙ ap (λ (e : Ending). status_of e board) (is ∙ ends);
     })
 by_ending trace Unread board status text bytes left_after ended failed before after gave whole
@@ -132,8 +134,8 @@ complete : (given : Rules) (board : State) (status : ℕ) (text : List ℕ)
     left_before ≡ Some text → (ended ≡ true → IsEmptyWhereTold left_after) → failed ≡ false →
     (status ≡ 4 → ⊥) → (run : IsRun given left_before left_after ended failed before after status
     board) →
-    WroteAll given.traces (record { bytes = run.bytes; ended = ended; failed = failed }) board
-    before after status ⊎ WroteFront given.traces
+    WroteAll (OfBlocks given.traces) (record { bytes = run.bytes; ended = ended; failed = failed }) board
+    before after status ⊎ WroteFront (OfBlocks given.traces)
     (record { bytes = run.bytes; ended = ended; failed = failed }) board before after status →
     IsAnswered given.traces text before after status board ⊎ (status ≡ 6)
 complete given board status text left_before left_after ended failed before after told whole

@@ -17,6 +17,7 @@ use Rattle.tarmo_run.specs.declared.endings.Ending.{Ending}
 use Rattle.tarmo_run.specs.declared.endings.Ending.TheVariants.{Complete, Refused, Unread}
 use Rattle.tarmo_run.specs.declared.endings.Ending.TheVariants.{Exhausted}
 use Rattle.tarmo_run.specs.Block.{AreBlocks}
+use Rattle.tarmo_run.specs.Body.{OfBlocks}
 use Rattle.tarmo_run.specs.Client.{queries_behind, queries_on}
 use Rattle.tarmo_run.specs.Desk.{IsFresh}
 use Rattle.tarmo_run.specs.Growth.{HasNoJobMore}
@@ -37,27 +38,27 @@ none_written trace desk before fresh = record {
   taken = sym (appended_nothing before);
 }
 
-unless : (ending : Ending) (P Q : Type 0) → (P → Q) → UnlessExhausted ending P →
+pub unless : (ending : Ending) (P Q : Type 0) → (P → Q) → UnlessExhausted ending P →
     UnlessExhausted ending Q
 unless (Complete count) P Q f p = f p
 unless (Refused fault) P Q f p = f p
 unless Unread P Q f p = f p
 unless Exhausted P Q f p = tt
 
-told_unless : (ending told : Ending) (P : Type 0) → (told ≡ ending) ⊎ (told ≡ Exhausted) →
+pub told_unless : (ending told : Ending) (P : Type 0) → (told ≡ ending) ⊎ (told ≡ Exhausted) →
     UnlessExhausted ending P → UnlessExhausted told P
 told_unless ending told P (inl same) p = subst (λ (e : Ending). UnlessExhausted e P) (sym same) p
 told_unless ending told P (inr memory) p =
     subst (λ (e : Ending). UnlessExhausted e P) (sym memory) tt
 
-told_ends : (ending told : Ending) (reading : Reading) → (told ≡ ending) ⊎ (told ≡ Exhausted) →
+pub told_ends : (ending told : Ending) (reading : Reading) → (told ≡ ending) ⊎ (told ≡ Exhausted) →
     IsEnding ending reading → IsEnding told reading
 told_ends ending told reading (inl same) ends =
     subst (λ (e : Ending). IsEnding e reading) (sym same) ends
 told_ends ending told reading (inr memory) ends =
     subst (λ (e : Ending). IsEnding e reading) (sym memory) tt
 
-abbrev begun_still : (reading : Reading) (old new : State) → HasNoJobMore old new →
+abbrev pub begun_still : (reading : Reading) (old new : State) → HasNoJobMore old new →
     AsksFirst reading old → AsksFirst reading new
 begun_still reading old new more begun = record {
   left = begun.left;
@@ -70,17 +71,19 @@ output_of : (trace : Bool) (ending told : Ending) (reading : Reading) (old : Des
     (blocks : List ℕ) → IsThrough ending reading old → (told ≡ ending) ⊎ (told ≡ Exhausted) →
     HasNoJobMore old.board new → old.writer.written ≤ jobs old.board.journal
     → AreBlocks trace old.board old.writer.written blocks →
-    IsOutput trace told reading new (blocks ++ last_line_of told)
+    IsOutput (OfBlocks trace) told reading new (blocks ++ last_line_of told)
 output_of trace ending told reading old new blocks through which more few are = record {
   ends = told_ends ending told reading which through.ends;
-  count = old.writer.written;
-  few = subst (λ n. old.writer.written ≤ n) (ap length (sym more.segments)) few;
-  all = told_unless ending told (old.writer.written ≡ jobs new.journal) which
-      (unless ending ((through.begun.left ≡ []) × HasAllBlocks old.writer old.board)
-      (old.writer.written ≡ jobs new.journal) (λ done. done.1.written
-      ∙ ap length (sym more.segments)) through.all);
-  blocks = blocks;
-  right = blocks_stay trace old.board new old.writer.written blocks more.longer few are;
+  lines = blocks;
+  right = record {
+    count = old.writer.written;
+    few = subst (λ n. old.writer.written ≤ n) (ap length (sym more.segments)) few;
+    all = told_unless ending told (old.writer.written ≡ jobs new.journal) which
+        (unless ending ((through.begun.left ≡ []) × HasAllBlocks old.writer old.board)
+        (old.writer.written ≡ jobs new.journal) (λ done. done.1.written
+        ∙ ap length (sym more.segments)) through.all);
+    right = blocks_stay trace old.board new old.writer.written blocks more.longer few are;
+  };
   written = refl;
 }
 
@@ -152,11 +155,13 @@ finished_in_blocks trace left_before left_after ended failed board before after 
       text = front.blocks ++ last_line_of Exhausted;
       output = record {
         ends = tt;
-        count = front.count;
-        few = front.few;
-        all = tt;
-        blocks = front.blocks;
-        right = front.right;
+        lines = front.blocks;
+        right = record {
+          count = front.count;
+          few = front.few;
+          all = tt;
+          right = front.right;
+        };
         written = refl;
       };
       size = front.size;
@@ -166,7 +171,7 @@ finished_in_blocks trace left_before left_after ended failed board before after 
       all = tt;
     }
 
-put_first : (reading : Reading) (board : State) (begun : AsksFirst reading board) →
+pub put_first : (reading : Reading) (board : State) (begun : AsksFirst reading board) →
     PutFirst board.journal (queries_in reading.bytes reading.ended) begun.left
 put_first reading board begun =
     record { done = queries_on board; whole = begun.queries; put = queries_put board.journal }
@@ -203,16 +208,20 @@ ran_through given ending left_before left_after ended failed board before after 
     }
 
 output_still : (trace : Bool) (ending : Ending) (reading : Reading) (old new : State)
-    (text : List ℕ) → HasNoJobMore old new → IsOutput trace ending reading old text →
-    IsOutput trace ending reading new text
+    (text : List ℕ) → HasNoJobMore old new → IsOutput (OfBlocks trace) ending reading old text →
+    IsOutput (OfBlocks trace) ending reading new text
 output_still trace ending reading old new text more output = record {
   ends = output.ends;
-  count = output.count;
-  few = subst (λ n. output.count ≤ n) (ap length (sym more.segments)) output.few;
-  all = unless ending (output.count ≡ jobs old.journal) (output.count ≡ jobs new.journal)
-      (λ all. all ∙ ap length (sym more.segments)) output.all;
-  blocks = output.blocks;
-  right = blocks_stay trace old new output.count output.blocks more.longer output.few output.right;
+  lines = output.lines;
+  right = record {
+    count = output.right.count;
+    few = subst (λ n. output.right.count ≤ n) (ap length (sym more.segments)) output.right.few;
+    all = unless ending (output.right.count ≡ jobs old.journal)
+        (output.right.count ≡ jobs new.journal)
+        (λ all. all ∙ ap length (sym more.segments)) output.right.all;
+    right = blocks_stay trace old new output.right.count output.lines more.longer output.right.few
+        output.right.right;
+  };
   written = output.written;
 }
 

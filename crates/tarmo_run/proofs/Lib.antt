@@ -13,4 +13,6 @@ mod Reached
 mod Results
 mod Statements
 mod Statuses
+mod Summaries
+mod Sums
 mod Variables

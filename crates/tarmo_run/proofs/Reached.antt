@@ -27,7 +27,7 @@ use Rattle.tarmo_run.specs.declared.endings.Ending.{Ending}
 use Rattle.tarmo_run.specs.declared.endings.Ending.TheVariants.{Complete, Refused, Unread}
 use Rattle.tarmo_run.specs.declared.endings.Ending.TheVariants.{Exhausted}
 use Rattle.tarmo_run.specs.declared.writer.Writer.{Writer}
-use Rattle.tarmo_run.specs.Client.{AddsFirst, clauses_behind, clauses_read, queries_behind}
+use Rattle.tarmo_run.specs.Client.{Adds, AddsFirst, clauses_behind, clauses_read, queries_behind}
 use Rattle.tarmo_run.specs.Client.{queries_on}
 use Rattle.tarmo_run.specs.Desk.{Answers, IsFresh}
 use Rattle.tarmo_run.specs.Growth.{IsLonger}
@@ -53,24 +53,25 @@ written_still trace writer writer' old new before now more same few took = recor
 }
 
 -- statements and then more of them, and their queries
-told : (old new : Desk) (first list all : List Numbered) → first ++ list ≡ all →
+pub asked_in_full : (old new : Desk) (first list all : List Numbered) → first ++ list ≡ all →
     queries_on old.board ≡ jobs_of (unnumbered first) →
-    clauses_read old.client old.board ≡ clauses_stated (unnumbered first) → Answers old new list
+    clauses_read old.client old.board ≡ clauses_stated (unnumbered first) →
+    Adds old.client old.board new.client new.board list
     → (queries_on new.board ≡ jobs_of (unnumbered all))
     × (clauses_read new.client new.board ≡ clauses_stated (unnumbered all))
-told old new first list all whole queries clauses answers = (
-  answers.adds.queries ∙ ap (λ (jobs : List Job). jobs
+asked_in_full old new first list all whole queries clauses adds = (
+  adds.queries ∙ ap (λ (jobs : List Job). jobs
       ++ jobs_after (clauses_read old.client old.board) (unnumbered list)) queries
       ∙ ap (λ (read : List (List ℕ)). jobs_of (unnumbered first)
       ++ jobs_after read (unnumbered list)) clauses
       ∙ sym (more_jobs [] first list)
       ∙ ap (λ (list : List Numbered). jobs_of (unnumbered list)) whole,
-  answers.adds.clauses ∙ ap (λ (read : List (List ℕ)). clauses_after read (unnumbered list)) clauses
+  adds.clauses ∙ ap (λ (read : List (List ℕ)). clauses_after read (unnumbered list)) clauses
       ∙ sym (more_clauses [] first list)
       ∙ ap (λ (list : List Numbered). clauses_stated (unnumbered list)) whole,
 )
 
-begun_by : (old new : Desk) (first list all : List Numbered) → first ++ list ≡ all →
+pub begun_by : (old new : Desk) (first list all : List Numbered) → first ++ list ≡ all →
     queries_on old.board ≡ jobs_of (unnumbered first) →
     clauses_read old.client old.board ≡ clauses_stated (unnumbered first) →
     (added : AddsFirst old.client old.board new.board list)
@@ -98,8 +99,8 @@ through_stop (Complete count) reader old new bytes whole ended failed list fault
     is stop = absurd stop
 through_stop (Refused found) reader old new bytes whole ended failed list fault unfailing up given
     is stop =
-    let all = told old new (statements bytes false) list (statements whole ended) given up.queries
-    up.clauses stop.1 in
+    let all = asked_in_full old new (statements bytes false) list (statements whole ended) given
+    up.queries up.clauses stop.1.adds in
     record {
       ends = (unfailing, sym is ∙ stop.0);
       begun = record {
@@ -134,8 +135,8 @@ piece_stop : (stop : Option Ending) (reader after : ReaderState) (old new : Desk
     (λ ending. IsThrough ending (record { bytes = bytes ++ piece; ended = false; failed = failed })
     new)
 piece_stop None reader after old new bytes piece failed list fault unfailing up read given is stop =
-    let all = told old new (statements bytes false) list (statements (bytes ++ piece) false) given
-    up.queries up.clauses stop.1 in
+    let all = asked_in_full old new (statements bytes false) list
+    (statements (bytes ++ piece) false) given up.queries up.clauses stop.1.adds in
     record {
       read = read;
       right = sym is
@@ -243,8 +244,8 @@ pub through_complete : (reader : ReaderState) (old new : Desk) (count : ℕ) (li
     IsThrough (Complete count) (record { bytes = bytes; ended = true; failed = failed }) new
 through_complete reader old new count list fault bytes failed unfailing up given is none answers
     counted =
-    let all = told old new (statements bytes false) list (statements bytes true)
-    (given bytes up.read) up.queries up.clauses answers in
+    let all = asked_in_full old new (statements bytes false) list (statements bytes true)
+    (given bytes up.read) up.queries up.clauses answers.adds in
     record {
       ends = (
         unfailing,

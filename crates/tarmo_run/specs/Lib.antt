@@ -1,5 +1,6 @@
 pub mod Asking
 pub mod Block
+pub mod Body
 pub mod Output
 pub mod Growth
 pub mod Client

@@ -26,7 +26,11 @@ use Rattle.tarmo_run.specs.declared.endings.Ending.TheVariants.{Unread, Exhauste
 use Rattle.tarmo_run.specs.declared.endings.Lack.{Lack}
 use Rattle.tarmo_run.specs.declared.endings.Lack.TheVariants.{Memory, Decision}
 use Rattle.entry_core.specs.declared.rules.Rules.{Rules}
+use Rattle.words.specs.Accepted.{Input, OfSum, OfText}
+use Rattle.icnf_text.specs.Printed.{printed}
+use Rattle.icnf_gen.specs.Drawn.{generated}
 use Rattle.tarmo_run.specs.Block.{AreBlocks}
+use Rattle.tarmo_run.specs.Body.{Body, OfBlocks, OfSummary, summary_of}
 
 -- statements without their lines
 abbrev pub unnumbered : List Numbered → List Statement
@@ -126,25 +130,41 @@ UnlessExhausted (Refused fault) P = P
 UnlessExhausted Unread P = P
 UnlessExhausted Exhausted P = Unit {0}
 
--- The whole output of a run that ends so: the blocks of the first jobs of the board, and of all of
--- them unless memory ran out, and the last line.
-pub record IsOutput (trace : Bool) (ending : Ending) (reading : Reading) (board : State)
-    (text : List ℕ) : Type 0 where
-  pub ends : IsEnding ending reading
+-- the blocks of the first jobs of the board, and of all of them unless memory ran out
+pub record AreFirstBlocks (trace : Bool) (ending : Ending) (board : State) (lines : List ℕ)
+    : Type 0 where
   pub count : ℕ
   pub few : count ≤ jobs board.journal
   pub all : UnlessExhausted ending (count ≡ jobs board.journal)
-  pub blocks : List ℕ
-  pub right : AreBlocks trace board count blocks
-  pub written : text ≡ blocks ++ last_line_of ending
+  pub right : AreBlocks trace board count lines
+
+-- a front of the summary over a number's text, and all of it unless memory ran out
+pub record IsFirstOfSummary (number : ℕ) (ending : Ending) (board : State) (lines : List ℕ)
+    : Type 0 where
+  pub rest : List ℕ
+  pub front : summary_of number board ≡ lines ++ rest
+  pub all : UnlessExhausted ending (rest ≡ [])
+
+-- what stands above the last line of a run that ends so
+abbrev pub IsBody : Body → Ending → State → List ℕ → Type 0
+IsBody (OfBlocks trace) ending board lines = AreFirstBlocks trace ending board lines
+IsBody (OfSummary number) ending board lines = IsFirstOfSummary number ending board lines
+
+-- The whole output of a run that ends so: the blocks or the summary, and the last line.
+pub record IsOutput (body : Body) (ending : Ending) (reading : Reading) (board : State)
+    (text : List ℕ) : Type 0 where
+  pub ends : IsEnding ending reading
+  pub lines : List ℕ
+  pub right : IsBody body ending board lines
+  pub written : text ≡ lines ++ last_line_of ending
 
 -- The sink took the whole output. The board's jobs are the text's queries, and each is settled;
 -- where memory ran out they are its first queries. No client cancelled one.
-pub record WroteAll (trace : Bool) (reading : Reading) (board : State)
+pub record WroteAll (body : Body) (reading : Reading) (board : State)
     (before after : Option (List ℕ)) (status : ℕ) : Type 0 where
   pub ending : Ending
   pub text : List ℕ
-  pub output : IsOutput trace ending reading board text
+  pub output : IsOutput body ending reading board text
   pub taken : after ≡ appended before text
   pub told : status ≡ status_of ending board
   pub left : List Job
@@ -156,11 +176,11 @@ pub record WroteAll (trace : Bool) (reading : Reading) (board : State)
 -- The sink failed: it took a front of an output. The board's jobs are the text's queries, its first
 -- ones where the output is one of a run whose memory ran out, and each is settled, if only by being
 -- cancelled.
-pub record WroteFront (trace : Bool) (reading : Reading) (board : State)
+pub record WroteFront (body : Body) (reading : Reading) (board : State)
     (before after : Option (List ℕ)) (status : ℕ) : Type 0 where
   pub ending : Ending
   pub text : List ℕ
-  pub output : IsOutput trace ending reading board text
+  pub output : IsOutput body ending reading board text
   pub size : ℕ
   pub taken : after ≡ appended before (take size text)
   pub told : status ≡ 4
@@ -177,10 +197,33 @@ pub record IsRun (given : Rules) (left_before left_after : Option (List ℕ))
   pub legal : IsLegal board.rules board.journal
   pub bytes : List ℕ
   pub gave : left_before ≡ followed_by bytes left_after
-  pub wrote : WroteAll given.traces (record { bytes = bytes; ended = ended; failed = failed })
+  pub wrote : WroteAll (OfBlocks given.traces)
+      (record { bytes = bytes; ended = ended; failed = failed })
       board taken_before taken_after status
-      ⊎ WroteFront given.traces (record { bytes = bytes; ended = ended; failed = failed })
+      ⊎ WroteFront (OfBlocks given.traces)
+      (record { bytes = bytes; ended = ended; failed = failed })
       board taken_before taken_after status
+
+-- the text that a number stands for, as if a source had given it to its end
+abbrev pub reading_of : ℕ → Reading
+reading_of number =
+    record { bytes = printed (generated number); ended = true; failed = false }
+
+-- A run over a number's text: the same with the summary in place of the blocks.
+pub record IsSum (number : ℕ) (given : Rules) (taken_before taken_after : Option (List ℕ))
+    (status : ℕ) (board : State) : Type 0 where
+  pub rules : board.rules ≡ given
+  pub legal : IsLegal board.rules board.journal
+  pub wrote : WroteAll (OfSummary number) (reading_of number) board taken_before taken_after status
+      ⊎ WroteFront (OfSummary number) (reading_of number) board taken_before taken_after status
+
+-- a run over the text of its source, or over that of a number
+abbrev pub IsRunOn : Input → Rules → Option (List ℕ) → Option (List ℕ) → Bool → Bool →
+    Option (List ℕ) → Option (List ℕ) → ℕ → State → Type 0
+IsRunOn (OfText name) given left_before left_after ended failed taken_before taken_after status
+    board = IsRun given left_before left_after ended failed taken_before taken_after status board
+IsRunOn (OfSum number) given left_before left_after ended failed taken_before taken_after status
+    board = IsSum number given taken_before taken_after status board
 
 -- A run without memory for a board reads nothing, and writes `memory`, or a front of it where the
 -- sink fails.

@@ -1,6 +1,6 @@
 //! The run on the caller's own thread.
 
-ghost use Rattle.std.specs.Prelude.{◌≡◌, ◌≢◌, ◌<◌, ◌≤◌, ◌⊎◌, ◌↔◌, ◌^◌, ℕ, List, [], Some, None};
+ghost use Rattle.std.specs.Prelude.{◌≡◌, ◌≢◌, ◌<◌, ◌≤◌, ◌⊎◌, ◌↔◌, ◌^◌, ℕ, List, Option, [], Some, None};
 ghost use Rattle.std.specs.Prelude.{true, false, nat_lt, map, take, string_bytes};
 ghost use Rattle.std.specs.Prelude.{IfOk, IfSome, OnErr, OnOk, MatchOption};
 ghost use Rattle.sat_base.specs.Lit.{variables};
@@ -13,22 +13,24 @@ ghost use Rattle.entry_core.specs.Journal.{clauses_of, cube_of, is_closed};
 ghost use Rattle.entry_core.specs.Legal.{IsLegal};
 ghost use Rattle.entry_core.specs.Settled.{settled};
 ghost use Rattle.tarmo_run.specs.Desk.{IsAlone, IsBetweenPieces, IsFresh};
-ghost use Rattle.tarmo_run.specs.Output.{HadNoBoard, IsAnswered, IsRun, last_line_of};
-ghost use Rattle.tarmo_run.specs.Asking.{accepted, rules_of};
+ghost use Rattle.tarmo_run.specs.Output.{HadNoBoard, IsAnswered, IsRun, IsRunOn, IsSum};
+ghost use Rattle.tarmo_run.specs.Output.{last_line_of};
+ghost use Rattle.tarmo_run.specs.Asking.{rules_of};
 ghost use Rattle.tarmo_run.specs.Ended.{Finished, FinishedInPart};
 ghost use Rattle.tarmo_run.specs.declared.endings.Ending.TheVariants as endings;
-ghost use Rattle.words.specs.Accepted.{Asked};
+ghost use Rattle.words.specs.Accepted.{Asked, OfSum, OfText, accepted};
 
-use crate::asking::TextRun;
+use crate::asking::Task;
 use crate::client::{close_input, give_up};
 use crate::desk::Desk;
 use crate::endings::{Ending, NO_MEMORY, close_without_memory};
 use crate::pieces::show_blocks;
+use crate::sum::{settle_sum, show_sum};
 use board_core::Board;
-use entry_core::{large_budgets_answer, verdicts_have_causes};
+use entry_core::{Rules, large_budgets_answer, verdicts_have_causes};
 use run_io::{Failed, Sink, Source};
 use std::alloc::Global;
-use words::WordsFault;
+use words::{WordsFault, Work};
 
 /// The status of a run whose words are refused.
 pub const WORDS_REFUSED: u8 = 5;
@@ -52,9 +54,10 @@ pub struct Finish {
 /// board, makes attempts at them until each is settled, writes their blocks before it reads on, and
 /// gives back the status and the board.
 ///
-/// The words are those of `read_words`, but for a sum, of which it has no run. The number of
-/// workers is ignored: the one worker is the caller's thread. With a name the source is started
-/// with it, and otherwise as standard input.
+/// The words are those of `read_words`. The number of workers is ignored: the one worker is the
+/// caller's thread. With a name the source is started with it, and otherwise as standard input.
+/// With `--sum` the text is the one that the number stands for: the source isn't started, and a
+/// summary of the verdicts takes the place of the blocks.
 ///
 /// It stops reading at the end of the text, at its first wrong place, where the source fails, and
 /// where memory runs out; a text without end has a wrong place. Each block and the last line are
@@ -84,7 +87,7 @@ pub fn run_alone<S: Source, O: Sink>(
         MatchOption result.board
         (HadNoBoard (S.left source.old) (S.left source.new) (O.taken out.old) (O.taken out.new)
         result.status)
-        (IsRun (rules_of command) (S.left source.old) (S.left source.new) (S.ended source.new)
+        (IsRunOn command.work (rules_of command) (S.left source.old) (S.left source.new) (S.ended source.new)
         (nat_lt (S.faults source.old) (S.faults source.new))
         (O.taken out.old) (O.taken out.new) result.status) }
     ensures causes { IfSome result.board (λ board. (job : ℕ) (given : Verdict) →
@@ -96,10 +99,14 @@ pub fn run_alone<S: Source, O: Sink>(
         ≤ 3 ^ variables (clauses_of board.journal job) (cube_of board.journal job)) }
     ensures closed { IfSome result.board (λ board. is_closed board.journal ≡ true) }
     ensures unstarted { result.board ≡ None → source.new ≡ source.old }
+    ensures summed { (command : Asked) (number : ℕ) →
+        accepted (map string_bytes words.now) ≡ Some command → command.work ≡ OfSum number →
+        source.new ≡ source.old }
     ensures whole { S.ended source.new ≡ true → IsEmptyWhereTold (S.left source.new) }
 
-    ensures complete { (command : Asked) (text : List ℕ) →
-        accepted (map string_bytes words.now) ≡ Some command → S.left source.old ≡ Some text →
+    ensures complete { (command : Asked) (name : Option (List ℕ)) (text : List ℕ) →
+        accepted (map string_bytes words.now) ≡ Some command → command.work ≡ OfText name →
+        S.left source.old ≡ Some text →
         S.faults source.new ≡ S.faults source.old → O.faults out.new ≡ O.faults out.old →
         MatchOption result.board (result.status ≡ 6)
         (λ board. IsAnswered command.trace text (O.taken out.old) (O.taken out.new)
@@ -114,8 +121,8 @@ pub fn run_alone<S: Source, O: Sink>(
 {
     verdicts_have_causes();
     large_budgets_answer();
-    let run = match TextRun::read(alloc, words) {
-        Ok(run) => run,
+    let task = match Task::read(alloc, words) {
+        Ok(task) => task,
         Err(WordsFault::Refused) => {
             return Finish {
                 status: WORDS_REFUSED,
@@ -124,9 +131,12 @@ pub fn run_alone<S: Source, O: Sink>(
         }
         Err(WordsFault::Memory) => return finish_without_memory(out),
     };
-    match Board::new(alloc, run.rules) {
-        Ok(board) => run_over(alloc, &run, board, source, out),
-        Err(_) => finish_without_memory(out),
+    let Ok(board) = Board::new(alloc, task.rules) else {
+        return finish_without_memory(out);
+    };
+    match &task.work {
+        Work::Text(file) => run_over(alloc, task.rules, file.as_deref(), board, source, out),
+        Work::Sum(number) => sum_over(alloc, task.rules, *number, board, out),
     }
 }
 
@@ -155,19 +165,20 @@ fn finish_without_memory<O: Sink>(out: &mut O) -> Finish
 // A run over an empty board.
 fn run_over<S: Source, O: Sink>(
     alloc: Global,
-    run: &TextRun,
+    rules: Rules,
+    file: Option<&str>,
     board: Board,
     source: &mut S,
     out: &mut O,
 ) -> Finish
-    requires rules { board.rules ≡ run.now.rules }
-    requires alone { IsAlone run.now.rules }
+    requires rules { board.rules ≡ rules }
+    requires alone { IsAlone rules }
     requires empty { board.journal ≡ [] }
     requires source_faults { S.faults source.old < last_count }
     requires sink_faults { O.faults out.old < last_count }
     requires unread { S.ended source.old ≡ false }
     ensures run { MatchOption result.board ⊥
-        (IsRun run.now.rules (S.left source.old) (S.left source.new) (S.ended source.new)
+        (IsRun rules (S.left source.old) (S.left source.new) (S.ended source.new)
         (nat_lt (S.faults source.old) (S.faults source.new))
         (O.taken out.old) (O.taken out.new) result.status) }
     ensures closed { IfSome result.board (λ board. is_closed board.journal ≡ true) }
@@ -177,7 +188,7 @@ fn run_over<S: Source, O: Sink>(
         × (O.faults out.old ≤ O.faults out.new) }
 {
     let mut desk = Desk::new(alloc, board);
-    match solve(alloc, run, &mut desk, source, out) {
+    match solve(alloc, rules.traces, file, &mut desk, source, out) {
         Ok(ending) => {
             let status = ending.status(&desk.board);
             give_back(desk, status)
@@ -192,7 +203,8 @@ fn run_over<S: Source, O: Sink>(
 // Writes the whole output, and says how the run ended.
 fn solve<S: Source, O: Sink>(
     alloc: Global,
-    run: &TextRun,
+    trace: bool,
+    file: Option<&str>,
     desk: &mut Desk,
     source: &mut S,
     out: &mut O,
@@ -202,11 +214,11 @@ fn solve<S: Source, O: Sink>(
     requires source_faults { S.faults source.old < last_count }
     requires unread { S.ended source.old ≡ false }
     ensures rules { desk.new.board.rules ≡ desk.old.board.rules }
-    ensures finished { IfOk result (λ ending. Finished run.now.rules.traces ending
+    ensures finished { IfOk result (λ ending. Finished trace ending
         (S.left source.old) (S.left source.new) (S.ended source.new)
         (nat_lt (S.faults source.old) (S.faults source.new)) desk.new.board
         (O.taken out.old) (O.taken out.new)) }
-    ensures front { OnErr result (FinishedInPart run.now.rules.traces
+    ensures front { OnErr result (FinishedInPart trace
         (S.left source.old) (S.left source.new) (S.ended source.new)
         (nat_lt (S.faults source.old) (S.faults source.new)) desk.new.board
         (O.taken out.old) (O.taken out.new)) }
@@ -215,16 +227,37 @@ fn solve<S: Source, O: Sink>(
     ensures later { S.faults source.old ≤ S.faults source.new }
     ensures cause { HasCause (O.faults out.old) (O.faults out.new) result }
 {
-    let ending = show_blocks(
-        alloc,
-        run.rules.traces,
-        run.file.as_deref(),
-        desk,
-        source,
-        out,
-    )?;
+    let ending = show_blocks(alloc, trace, file, desk, source, out)?;
     close_input(&mut desk.board);
     ending.close(alloc, out)
+}
+
+// A run over a number's text, on an empty board.
+fn sum_over<O: Sink>(alloc: Global, rules: Rules, number: u64, board: Board, out: &mut O) -> Finish
+    requires rules { board.rules ≡ rules }
+    requires alone { IsAlone rules }
+    requires empty { board.journal ≡ [] }
+    requires sink_faults { O.faults out.old < last_count }
+    ensures run { MatchOption result.board ⊥
+        (IsSum number rules (O.taken out.old) (O.taken out.new) result.status) }
+    ensures closed { IfSome result.board (λ board. is_closed board.journal ≡ true) }
+    ensures unread { (result.status ≢ 3) × (result.status ≢ 5) }
+    ensures sink { (result.status ≡ 4) ↔ (O.faults out.old < O.faults out.new) }
+    ensures counts { O.faults out.old ≤ O.faults out.new }
+{
+    let mut desk = Desk::new(alloc, board);
+    let settled = settle_sum(alloc, number, &mut desk);
+    close_input(&mut desk.board);
+    match show_sum(alloc, number, settled, &desk.board, out) {
+        Ok(ending) => {
+            let status = ending.status(&desk.board);
+            give_back(desk, status)
+        }
+        Err(Failed) => {
+            give_up(&mut desk.board);
+            give_back(desk, SINK_FAILED)
+        }
+    }
 }
 
 // Gives the board back.

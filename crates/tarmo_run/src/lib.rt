@@ -12,6 +12,8 @@ mod client;
 mod desk;
 mod endings;
 mod pieces;
+mod sum;
+mod summary;
 #[cfg(test)]
 mod tests;
 mod writer;

@@ -2,6 +2,7 @@
 //! a wrong place.
 
 use super::{Case, FIRST, NONE, PLAIN, assert_case, assert_settled, run};
+use crate::summary::summary;
 use entry_core::Outcome;
 use std::alloc::{AllocError, Global};
 use std::process::Abort;
@@ -29,6 +30,9 @@ const SPENT_THEN_REFUTED: &[Outcome] = &[Outcome::Spent, Outcome::Refuted];
 const THREE_JOBS: &str = "p inccnf\n1 2 0\n-1 0\na -2 0\na 0\na -2 0\n";
 
 const THIRD_CANCELLED: &[Outcome] = &[Outcome::Refuted, Outcome::Model, Outcome::Cancelled(2)];
+
+const SUMMARY: &str = "sum 7\nclauses 2\njobs 3\nsatisfiable 1\nunsatisfiable 1\nunknown 0\n\
+    cancelled 1\nnomemory 0\n";
 
 const TRACED: &[Case<'static>] = &[
     Case {
@@ -231,6 +235,22 @@ fn under_first_a_model_cancels_the_jobs_behind_it(rt: HostRuntime) -> Result<(),
     for case in UNDER_FIRST {
         assert_case(rt.alloc(), &rt, case)?;
     }
+    Ok(())
+}
+
+#[test]
+fn a_summary_counts_the_verdicts(rt: HostRuntime) -> Result<(), Fail> {
+    let case = Case {
+        words: "--first",
+        text: THREE_JOBS,
+        ..PLAIN
+    };
+    let run = run(rt.alloc(), &case)?;
+    let Some(board) = &run.board else {
+        panic!(rt; "no board");
+    };
+    let lines = summary(rt.alloc(), 7, board)?;
+    assert_eq!(rt; lines.as_slice(), SUMMARY.as_bytes());
     Ok(())
 }
 

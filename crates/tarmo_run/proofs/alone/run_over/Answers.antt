@@ -11,20 +11,20 @@ new-desk-requires-clause-alone g c = subst (λ (rules : Rules). IsAlone rules) (
 
 pub returns-in-Ok-clause-run : goal.returns-in-Ok-clause-run
 returns-in-Ok-clause-run g c =
-    let rules : c.new-desk.result.board.rules ≡ c.args.run.now.rules =
+    let rules : c.new-desk.result.board.rules ≡ c.args.rules =
     ap (λ (board : State). board.rules) c.new-desk.ensures.board ∙ c.requires.rules in
     rw c.give_back.ensures.parts
-    (ran_through c.args.run.now.rules c.in-Ok.ending _ _ _ _ c.solve.new.desk.board _ _
+    (ran_through c.args.rules c.in-Ok.ending _ _ _ _ c.solve.new.desk.board _ _
     c.status-status.result
     (c.solve.ensures.rules ∙ rules) c.give_back.ensures.legal c.status-status.ensures
     c.in-Ok.ensures.finished)
 
 pub returns-in-Err-clause-run : goal.returns-in-Err-clause-run
 returns-in-Err-clause-run g c =
-    let rules : c.new-desk.result.board.rules ≡ c.args.run.now.rules =
+    let rules : c.new-desk.result.board.rules ≡ c.args.rules =
     ap (λ (board : State). board.rules) c.new-desk.ensures.board ∙ c.requires.rules in
     rw c.give_back-in-Err.ensures.parts
-    (ran_in_part c.args.run.now.rules _ _ _ _ c.solve.new.desk.board c.give_up.new.board _ _ 4
+    (ran_in_part c.args.rules _ _ _ _ c.solve.new.desk.board c.give_up.new.board _ _ 4
     (c.give_up.ensures.more.longer.rules ∙ c.solve.ensures.rules ∙ rules)
     c.give_back-in-Err.ensures.legal refl c.give_up.ensures.more c.give_up.ensures.settled
     c.in-Err.ensures.front)
