@@ -15,3 +15,7 @@ pub mod Left
 pub mod Begun
 pub mod Finished
 pub mod OneWorker
+pub mod Sharings
+pub mod Passes
+pub mod Holding
+pub mod Slicing

@@ -6,3 +6,5 @@ pub mod Asked
 pub mod Kept
 pub mod Rounds
 pub mod Importing
+pub mod Shared
+pub mod Slices
