@@ -2,9 +2,10 @@
 //! The layer above uses the clauses of `Source` and `Sink`, which speak of a source's bytes still
 //! to come, its count of faults and whether it has ended, and of a sink's bytes taken and its count
 //! of faults; and that of `write_all`. Nothing here knows what the bytes say: no format, no job, no
-//! verdict.
+//! verdict. A gate is where a worker may be held, for tests.
 #![tactic(auto)]
 
+mod gate;
 mod memory_sink;
 mod memory_source;
 mod outside;
@@ -14,6 +15,7 @@ mod std_sink;
 mod std_source;
 mod system;
 
+pub use gate::{Gate, NoGate};
 pub use memory_sink::MemorySink;
 pub use memory_source::MemorySource;
 pub use outside::{Failed, Sink, Source};
