@@ -154,3 +154,6 @@ job_seen lock pass board job known there = record {
   from_one = there.from_one;
   added = let le = (longer_journal_keeps lock.basis pass.seen known.seen.0).more_jobs in let was = there.added in omega (arith, le, was, ap jobs known.seen.1);
 }
+
+pub fits_on : (lock : BoardLock) (bench : Bench) (old new : BoardPass) → Keeps lock old new → Fits bench old.seen → Fits bench new.seen
+fits_on lock bench old new keeps fits = subst (Fits bench) (sym keeps.later.1) (fits_longer bench old.seen keeps.later.0 fits)

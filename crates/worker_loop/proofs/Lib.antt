@@ -19,3 +19,5 @@ pub mod Sharings
 pub mod Passes
 pub mod Holding
 pub mod Slicing
+pub mod Segmented
+pub mod Served

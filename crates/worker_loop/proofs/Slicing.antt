@@ -1,5 +1,5 @@
 -- Slices of an attempt.
-use Rattle.std.proofs.Common.{◌≡◌, ◌∙◌, ℕ, ◌+◌, ◌-◌, ◌≤◌, ◌==◌, cond, Bool, true, false, List, [], ◌++◌, map, length, drop, take, Option, Some, None, refl, ap, sym, subst, arith, append-nil}
+use Rattle.std.proofs.Common.{◌≡◌, ◌∙◌, ℕ, ◌+◌, ◌-◌, ◌<◌, ◌≤◌, ◌==◌, cond, Bool, true, false, List, [], ◌++◌, map, length, drop, take, Option, Some, None, refl, ap, sym, subst, arith, append-nil}
 use Rattle.std.specs.Prelude.{All, Contains, is_some, IfSome, IfOk, IfErr, Result, Ok, Err, is_ok}
 use Rattle.std.specs.Arc.{arc_value}
 use Rattle.std.proofs.lemmas.Bool.Decides.{nat_tests}
@@ -34,6 +34,7 @@ use Rattle.worker_loop.specs.declared.attempt.Attempt.{Attempt}
 use Rattle.worker_loop.specs.declared.bench.Bench.{Bench}
 use Rattle.worker_loop.specs.declared.ends.End.{End}
 use Rattle.worker_loop.specs.declared.ends.End.TheVariants as end
+use Rattle.worker_loop.specs.declared.slices.Turn.{Turn}
 use Rattle.worker_loop.specs.declared.slices.Turn.TheVariants as turn
 use Rattle.worker_loop.specs.Asked.{clause_at, clauses_at}
 use Rattle.worker_loop.specs.Ends.{IsEnd}
@@ -42,7 +43,7 @@ use Rattle.worker_loop.specs.Importing.{HasImported}
 use Rattle.worker_loop.specs.Kept.{KeepsLearnt}
 use Rattle.worker_loop.specs.Rounds.{IsOfLearnt, IsOfRound, MakesRound}
 use Rattle.worker_loop.specs.Shared.{HasSharedMore, IsLesson, KnowsMore}
-use Rattle.worker_loop.specs.Slices.{HoldsShared, IsTurn, turn_with}
+use Rattle.worker_loop.specs.Slices.{HoldsShared, IsSlice, IsTurn, turn_with}
 use Rattle.worker_loop.proofs.Bounded.{last_known}
 use Rattle.worker_loop.proofs.Traced.{rest_of}
 
@@ -133,6 +134,10 @@ goes_on attempt budget round true given of going = absurd (cc)
 goes_on attempt budget round false None of going = of.0
 goes_on attempt budget round false (Some (end.Answered given)) of going = absurd (cc)
 goes_on attempt budget round false (Some (end.Spent learnt)) of going = of.0
+
+pub going_left : (rules : Rules) (seen : List Entry) (old new : Bench) (attempt attempt' : Attempt) (given : Turn) → IsSlice rules seen old new attempt attempt' given → given ≡ turn.Going → length attempt'.learnt.items < rules.conflicts
+going_left rules seen old new attempt attempt' given s going =
+    (subst (IsTurn rules seen attempt' s.round (clauses_at s.solver.steps attempt'.learnt.items)) going s.comes).2
 
 -- What the session holds afterwards.
 pub holds_shared : (rules : Rules) (seen : List Entry) (bench : Bench) (job : ℕ) → IsLegal rules seen → IsSound bench.session.solver → read_by bench ≡ packets seen → KnowsRead bench → bench.session.solver.bound ≡ job

@@ -8,3 +8,5 @@ pub mod Rounds
 pub mod Importing
 pub mod Shared
 pub mod Slices
+pub mod Segments
+pub mod Work
