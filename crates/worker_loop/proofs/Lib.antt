@@ -21,3 +21,4 @@ pub mod Holding
 pub mod Slicing
 pub mod Segmented
 pub mod Served
+pub mod Opening
