@@ -98,10 +98,13 @@ few_after rules before (entry ∷ rest) legal few =
     subst (λ (all : List (List Step)). length all ≤ 4194304) (sym (packets-append before (entry ∷ []))) (few_shared rules before entry.caller entry.event legal.0 few) in
     subst (λ (all : List Entry). length (packets all) ≤ 4194304) (append_assoc before (entry ∷ []) rest) (few_after rules (before ++ entry ∷ []) rest legal.1 now)
 
+pub few_packets : (rules : Rules) (journal : List Entry) → IsLegal rules journal → length (packets journal) ≤ 4194304
+few_packets rules journal legal = few_after rules [] journal legal (omega arith)
+
 -- so a bench that fits has read few
 pub few_read : (rules : Rules) (journal : List Entry) (bench : Bench) → IsLegal rules journal → Fits bench journal → length bench.packets.items < 4294967296
 few_read rules journal bench legal fits =
-    let few : length (packets journal) ≤ 4194304 = few_after rules [] journal legal (omega arith) in
+    let few = few_packets rules journal legal in
     omega (arith, few, ap length fits.read.is, length-append (read_by bench) fits.read.more, length-map bench.packets.items arc_value)
 
 -- A bench goes on to fit after a round.

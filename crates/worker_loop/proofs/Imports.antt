@@ -61,7 +61,7 @@ up_to_twice (one ∷ all) low high le = by_tests (nat_le one.tag high) (nat_le o
         ∙ sym (ap (λ b. cond b (one ∷ low_up) low_up) at)
 
 -- the clauses of a job up to a smaller tag are those of that job
-clauses_same : (journal : List Entry) (tag bound : ℕ) → tag ≤ bound → clauses_up_to (inputs_of journal bound) tag ≡ clauses_of journal tag
+pub clauses_same : (journal : List Entry) (tag bound : ℕ) → tag ≤ bound → clauses_up_to (inputs_of journal bound) tag ≡ clauses_of journal tag
 clauses_same journal tag bound le = ap (map (λ (input : Known). input.clause)) (up_to_twice (inputs journal) tag bound le)
 
 -- Each packet that was read can be taken in from its tag's job on.

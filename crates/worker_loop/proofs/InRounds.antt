@@ -1,5 +1,5 @@
 -- Rounds, one after another.
-use Rattle.std.proofs.Common.{◌≡◌, ◌∙◌, ℕ, ◌-◌, ◌<◌, ◌≤◌, min, List, [], ◌++◌, length, drop, refl, ap, sym, subst, arith, append_assoc}
+use Rattle.std.proofs.Common.{◌≡◌, ◌∙◌, ℕ, ◌+◌, ◌-◌, ◌<◌, ◌≤◌, min, List, [], ◌++◌, length, drop, refl, ap, sym, subst, arith, append_assoc}
 use Rattle.std.specs.Prelude.{All}
 use Rattle.std.proofs.lemmas.List.{append-nil, length-append}
 use Rattle.std.proofs.Math.Seq.{drop-append_seam}
@@ -113,3 +113,11 @@ nothing_learnt solver attempt budget few = record {
   listed = sym (append-nil attempt.learnt.items);
   few = few;
 }
+
+-- after a pause the attempt lists so much more
+pub grown : (old new : Solver) (before after : Attempt) (budget : ℕ) (round : Round) → (m : MakesRound old new before after budget round) → round ≡ Paused
+    → length after.learnt.items ≡ length before.learnt.items + min 256 (budget - length before.learnt.items)
+grown old new before after budget round m paused =
+    let all = paused_more new before.cube (min 256 (budget - length before.learnt.items)) (length m.solves.more) round m.solves.ends paused in
+    let count = names_counted new.steps m.solves.learns.names m.solves.more m.solves.learns.named in
+    omega (arith, all, count, ap length m.listed, length-append before.learnt.items m.solves.learns.names)

@@ -15,3 +15,10 @@ pub mod Left
 pub mod Begun
 pub mod Finished
 pub mod OneWorker
+pub mod Sharings
+pub mod Passes
+pub mod Holding
+pub mod Slicing
+pub mod Segmented
+pub mod Served
+pub mod Opening

@@ -70,7 +70,7 @@ read_ok : (rules : Rules) (journal : List Entry) (bench : Bench) → IsLegal rul
 read_ok rules journal bench legal fits = ok_front (inputs journal) [] (read_by bench) fits.read.more (subst (AreOkPackets (inputs journal) []) fits.read.is (packets_are_ok rules journal legal))
 
 -- what references name to a session that fits, they name among all inputs and the packets that were read
-named_by_all : (journal : List Entry) (bench : Bench) (own : List Known) (name : Ref) (one : Known) → Fits bench journal → known bench.session.solver.inputs (shared_by bench.session.solver.packets) own name ≡ Some one
+pub named_by_all : (journal : List Entry) (bench : Bench) (own : List Known) (name : Ref) (one : Known) → Fits bench journal → known bench.session.solver.inputs (shared_by bench.session.solver.packets) own name ≡ Some one
     → known (inputs journal) (made_known (read_by bench)) own name ≡ Some one
 named_by_all journal bench own (Input number) one fits is =
     let front = inputs_of_front journal bench.session.solver.bound in

@@ -6,3 +6,7 @@ pub mod Asked
 pub mod Kept
 pub mod Rounds
 pub mod Importing
+pub mod Shared
+pub mod Slices
+pub mod Segments
+pub mod Work

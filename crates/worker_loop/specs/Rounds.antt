@@ -1,5 +1,6 @@
 -- The rounds of an attempt.
-use Rattle.std.specs.Prelude.{◌≡◌, ℕ, ◌-◌, ◌≤◌, Bool, min, List, ◌++◌, length}
+use Rattle.std.specs.Prelude.{◌≡◌, ℕ, ◌-◌, ◌<◌, ◌≤◌, Bool, min, List, ◌++◌, length, Option, None}
+use Rattle.std.specs.Prelude.{Some}
 use Rattle.std.specs.Arc.{arc_value}
 use Rattle.sat_base.specs.Truth.{IsModelOf}
 use Rattle.entry_core.specs.declared.answers.Answer.{Answer}
@@ -49,3 +50,11 @@ abbrev pub IsOfLearnt : Solver → Attempt → End → Type 0
 IsOfLearnt solver attempt (Answered answer) = Unit {0}
 IsOfLearnt solver attempt (Spent learnt) =
     arc_value learnt ≡ clauses_at solver.steps attempt.learnt.items
+
+-- An answer comes after a round with an answer, a spent list where the round paused and the
+-- attempt has learnt as much as the budget allows, and no end where it has learnt less.
+abbrev pub IsOfRound : Attempt → ℕ → Round → Option End → Type 0
+IsOfRound attempt budget round None = (round ≡ Paused) × (length attempt.learnt.items < budget)
+IsOfRound attempt budget round (Some (Answered given)) = round ≡ Paused → ⊥
+IsOfRound attempt budget round (Some (Spent learnt)) =
+    (round ≡ Paused) × (length attempt.learnt.items ≡ budget)

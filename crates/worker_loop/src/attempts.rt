@@ -8,7 +8,7 @@ ghost use Rattle.session.specs.declared.rounds.Round.TheVariants.{Paused};
 ghost use Rattle.session.specs.Solving.{Keeps};
 ghost use Rattle.worker_loop.specs.Asked.{IsEndOver};
 ghost use Rattle.worker_loop.specs.Fits.{AreLearnt, FitsAttempt, FitsLegal};
-ghost use Rattle.worker_loop.specs.Rounds.{HasLearntOn, IsOfLearnt, IsRightRound};
+ghost use Rattle.worker_loop.specs.Rounds.{HasLearntOn, IsOfLearnt, IsOfRound, IsRightRound};
 ghost use Rattle.worker_loop.specs.Rounds.{IsRightWhereRefuted};
 
 use crate::attempt::Attempt;
@@ -78,6 +78,7 @@ pub(crate) fn end_of(
         (λ end. IfSome end (IsOfLearnt bench.now.session.solver attempt.now)) }
     ensures goes_on { IfOk result (λ end. end ≡ None → length attempt.now.learnt.items < budget) }
     ensures paused { IfOk result (λ end. end ≡ None → round ≡ Paused) }
+    ensures of_round { IfOk result (IsOfRound attempt.now budget round) }
 {
     match round {
         Round::Model(model) => {
@@ -108,6 +109,7 @@ fn spent(
     ensures learnt { IfOk result
         (λ end. IfSome end (IsOfLearnt bench.now.session.solver attempt.now)) }
     ensures goes_on { IfOk result (λ end. end ≡ None → length attempt.now.learnt.items < budget) }
+    ensures of_round { IfOk result (IsOfRound attempt.now budget Paused) }
 {
     if (attempt.learnt.len() as u64) < budget {
         return Ok(None);

@@ -10,6 +10,7 @@ ghost use Rattle.worker_loop.specs.Kept.{KeepsLearnt};
 
 use crate::bench::Bench;
 use crate::importing::import_waiting;
+use crate::segments::{load_all, segments_up_to};
 use board_core::Board;
 use entry_core::Segment;
 use session::Session;
@@ -31,47 +32,31 @@ pub(crate) fn bring_to(
     ensures kept { bench.old.session.solver.bound ≤ job
         → KeepsLearnt bench.old.session.solver bench.new.session.solver }
 {
-    begin_anew_past(alloc, bench, job);
-    load_up_to(board, bench, job)?;
-    // A legal journal has few packets, and each can be taken in from its tag's job on.
+    begin_anew_past(alloc, 0, bench, job);
+    // A legal journal keeps the limits on jobs, clauses and packets, and each packet can be taken
+    // in from its tag's job on.
     let _ = board.journal();
+    let unloaded = segments_up_to(alloc, board, bench.session.bound(), job)?;
+    load_all(bench, &unloaded)?;
     import_waiting(bench)
 }
 
 /// Begins anew with a session that is past the job, since clauses of later jobs are none of this
 /// one's.
-fn begin_anew_past(alloc: Global, bench: &mut Bench, job: u32)
+pub(crate) fn begin_anew_past(alloc: Global, variant: u32, bench: &mut Bench, job: u32)
     ensures fits { (journal : List Entry) → Fits bench.old journal → Fits bench.new journal }
     ensures up_to { bench.new.session.solver.bound ≤ job }
     ensures kept { bench.old.session.solver.bound ≤ job
         → KeepsLearnt bench.old.session.solver bench.new.session.solver }
 {
     if bench.session.bound() > job {
-        bench.session = Session::new(alloc, 0);
+        bench.session = Session::new(alloc, variant);
     }
-}
-
-/// Loads the clauses of one job after the other, up to this one.
-fn load_up_to(board: &Board, bench: &mut Bench, job: u32) -> Result<(), AllocError>
-    requires job { IsJob board.now job }
-    requires fits { Fits bench.old board.now.journal }
-    requires up_to { bench.old.session.solver.bound ≤ job }
-    ensures fits { OnOk result (Fits bench.new board.now.journal) }
-    ensures bound { OnOk result (bench.new.session.solver.bound ≡ job) }
-    ensures kept { KeepsLearnt bench.old.session.solver bench.new.session.solver }
-{
-    // A legal journal keeps the limits on jobs and clauses.
-    let _ = board.journal();
-    while bench.session.bound() < job {
-        let segment = board.segment(bench.session.bound() + 1)?;
-        load_next(bench, &segment)?;
-    }
-    Ok(())
 }
 
 /// Loads what was added with the job behind the one that is loaded. After want of memory the
 /// bench is as before.
-fn load_next(bench: &mut Bench, segment: &Segment) -> Result<(), AllocError>
+pub(crate) fn load_next(bench: &mut Bench, segment: &Segment) -> Result<(), AllocError>
     requires clauses { length bench.old.session.solver.inputs + length segment.now.clauses
         ≤ 16777216 }
     requires jobs { bench.old.session.solver.bound < 1048576 }

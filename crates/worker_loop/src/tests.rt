@@ -15,6 +15,8 @@ use std::sync::Arc;
 use std::test::Fail;
 use trace_core::Step;
 
+mod served;
+
 // Three pigeons in two holes: variable 2p - 1 says that pigeon p sits in the first hole, 2p in the
 // second. The first learnt clause is -2, and then the clauses are refuted without a decision.
 const PIGEONS: &[&[i32]] = &[

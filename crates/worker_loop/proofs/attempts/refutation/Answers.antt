@@ -1,4 +1,4 @@
-use Rattle.std.proofs.Common.{◌≡◌, ◌∙◌, ℕ, Bool, true, false, List, map, sym, subst}
+use Rattle.std.proofs.Common.{◌∙◌, List, map, sym, subst}
 use Rattle.std.specs.Prelude.{IsSome}
 use Rattle.std.specs.Arc.{arc_value}
 use Rattle.std.specs.declared.sync.Arc.{Arc}

@@ -1,0 +1,18 @@
+use Rattle.std.proofs.Common.{subst}
+use Rattle.service.proofs.Keeping.{keeps_then}
+use Rattle.worker_loop.specs.Work.{HasTaken}
+use Rattle.worker_loop.proofs.Holding.{fits_on}
+use Rattle.worker_loop.proofs.serving.work.Goals as goal
+
+pub try_job-requires-clause-fits : goal.try_job-requires-clause-fits
+try_job-requires-clause-fits g c = fits_on c.args.service.now.lock c.loop.bench c.loop.pass c.take_once.new.pass c.take_once.ensures.keeps c.loop.invariant.fits
+
+pub loop-preserved-in-Idle : goal.loop-preserved-in-Idle
+loop-preserved-in-Idle g c = record {
+  can = tt;
+  ends = tt;
+  work = c.take_once.ensures.work;
+  rests = subst (HasTaken c.args.service.now.lock c.take_once.new.pass) c.in-Idle.is c.in_ok-take_once.ensures.taken;
+  keeps = keeps_then c.args.service.now.lock c.args.pass.now c.loop.pass c.take_once.new.pass c.loop.invariant.keeps c.take_once.ensures.keeps;
+  fits = fits_on c.args.service.now.lock c.loop.bench c.loop.pass c.take_once.new.pass c.take_once.ensures.keeps c.loop.invariant.fits;
+}
