@@ -87,8 +87,8 @@ pub fn run_alone<S: Source, O: Sink>(
         MatchOption result.board
         (HadNoBoard (S.left source.old) (S.left source.new) (O.taken out.old) (O.taken out.new)
         result.status)
-        (IsRunOn command.work (rules_of command) (S.left source.old) (S.left source.new) (S.ended source.new)
-        (nat_lt (S.faults source.old) (S.faults source.new))
+        (IsRunOn command.work (rules_of command) (S.left source.old) (S.left source.new)
+        (S.ended source.new) (nat_lt (S.faults source.old) (S.faults source.new))
         (O.taken out.old) (O.taken out.new) result.status) }
     ensures causes { IfSome result.board (λ board. (job : ℕ) (given : Verdict) →
         settled board.rules board.journal job ≡ Some given →
