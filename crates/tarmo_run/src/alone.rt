@@ -1,7 +1,7 @@
 //! The run on the caller's own thread.
 
-ghost use Rattle.std.specs.Prelude.{◌≡◌, ◌≢◌, ◌<◌, ◌≤◌, ◌⊎◌, ◌↔◌, ◌^◌, ℕ, List, Option, [], Some, None};
-ghost use Rattle.std.specs.Prelude.{true, false, nat_lt, map, take, string_bytes};
+ghost use Rattle.std.specs.Prelude.{◌≡◌, ◌≢◌, ◌<◌, ◌≤◌, ◌⊎◌, ◌↔◌, ◌^◌, ℕ, List, Option};
+ghost use Rattle.std.specs.Prelude.{[], Some, None, true, false, nat_lt, map, take, string_bytes};
 ghost use Rattle.std.specs.Prelude.{IfOk, IfSome, OnErr, OnOk, MatchOption};
 ghost use Rattle.sat_base.specs.Lit.{variables};
 ghost use Rattle.run_io.specs.Bytes.{IsEmptyWhereTold, appended};
