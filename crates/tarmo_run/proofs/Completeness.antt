@@ -19,7 +19,8 @@ use Rattle.tarmo_run.specs.declared.endings.Ending.{Ending}
 use Rattle.tarmo_run.specs.declared.endings.Ending.TheVariants.{Complete, Refused, Unread}
 use Rattle.tarmo_run.specs.declared.endings.Ending.TheVariants.{Exhausted}
 use Rattle.tarmo_run.specs.Asking.{rules_of}
-use Rattle.words.specs.Accepted.{Asked}
+use Rattle.words.specs.Accepted.{Asked, Input, OfSum, OfText, input_of}
+use Rattle.words.specs.declared.command.Work.{Work}
 use Rattle.tarmo_run.specs.Block.{AreBlocks}
 use Rattle.tarmo_run.specs.Body.{OfBlocks}
 use Rattle.tarmo_run.specs.Output.{IsAnswered, IsEnding, IsOutput, IsRun, PutFirst, PutQueries}

@@ -13,7 +13,7 @@ use Rattle.tarmo_run.specs.Growth.{HasNoJobMore, IsLonger}
 use Rattle.tarmo_run.specs.Output.{AreSettled}
 use Rattle.tarmo_run.specs.declared.summary.Kind.{Kind}
 use Rattle.tarmo_run.specs.declared.summary.Kind.TheVariants as kinds
-use Rattle.tarmo_run.proofs.Boards.{inputs_stay, one_same}
+use Rattle.tarmo_run.proofs.Boards.{inputs_stay, more_jobs, one_same}
 
 -- one more job, which is so
 pub one_counted : (kind : Option Verdict → Bool) (board : State) (job count : ℕ) →

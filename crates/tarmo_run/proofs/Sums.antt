@@ -1,7 +1,7 @@
 -- A run over a number's text.
-use Rattle.std.proofs.Common.{◌≡◌, ◌∙◌, ℕ, ◌+◌, ◌<◌, List, [], ◌++◌, length, take, Option, Bool}
+use Rattle.std.proofs.Common.{◌≡◌, ◌∙◌, ℕ, ◌+◌, ◌<◌, ◌≤◌, List, [], ◌++◌, length, take, Option, Bool}
 use Rattle.std.proofs.Common.{None, cond, true, false, refl, ap, sym, subst, arith, inl, inr, append-nil, append_assoc}
-use Rattle.std.specs.Prelude.{◌⊎◌, Result, Ok, Err, IsOk, OnOk, is_err}
+use Rattle.std.specs.Prelude.{◌⊎◌, Result, Ok, Err, IsOk, OnOk, OnErr, is_err}
 use Rattle.std.specs.declared.alloc.AllocError.{AllocError}
 use Rattle.std.proofs.lemmas.List.{append_cancel_left, take-append-le}
 use Rattle.std.proofs.Math.Seq.{take-append-add}
@@ -23,14 +23,14 @@ use Rattle.icnf_gen.specs.Drawn.{generated}
 use Rattle.tarmo_run.specs.declared.desk.Desk.{Desk}
 use Rattle.tarmo_run.specs.declared.endings.Ending.{Ending}
 use Rattle.tarmo_run.specs.declared.endings.Ending.TheVariants.{Complete, Exhausted, Refused, Unread}
-use Rattle.tarmo_run.specs.Body.{summary_of}
+use Rattle.tarmo_run.specs.Body.{OfSummary, summary_of}
 use Rattle.tarmo_run.specs.Client.{Adds, AddsFirst, clauses_behind, clauses_read, queries_behind}
 use Rattle.tarmo_run.specs.Client.{queries_on}
 use Rattle.tarmo_run.specs.Desk.{IsFresh}
 use Rattle.tarmo_run.specs.Ended.{EndsSum, TookFrontOfLine, TookFrontOfSummary}
 use Rattle.tarmo_run.specs.Ended.{TookSummary}
-use Rattle.tarmo_run.specs.Growth.{HasNoJobMore}
-use Rattle.tarmo_run.specs.Output.{AreSettled, IsEnding, IsFirstOfSummary, IsSum}
+use Rattle.tarmo_run.specs.Growth.{HasNoJobMore, IsLonger}
+use Rattle.tarmo_run.specs.Output.{AreSettled, IsEnding, IsFirstOfSummary, IsOutput, IsSum}
 use Rattle.tarmo_run.specs.Output.{UnlessExhausted, last_line_of, queries_in, reading_of, status_of}
 use Rattle.tarmo_run.specs.Output.{is_one_so, is_starved, is_undecided, unnumbered}
 use Rattle.tarmo_run.specs.Reading.{AsksFirst}

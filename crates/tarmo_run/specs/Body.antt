@@ -1,6 +1,6 @@
 -- What stands above the last line of an output.
-use Rattle.std.specs.Prelude.{◌++◌, ℕ, zero, suc, Bool, true, false, if◌then◌else◌}
-use Rattle.std.specs.Prelude.{Option, Some, List, codes, length, not}
+use Rattle.std.specs.Prelude.{◌≡◌, ◌≤◌, ◌++◌, ◌||◌, ℕ, zero, suc, Bool, true, false, if◌then◌else◌}
+use Rattle.std.specs.Prelude.{Option, Some, List, [], codes, length, not}
 use Rattle.std.specs.Fmt.{decimal}
 use Rattle.std.specs.Arc.{arc_value}
 use Rattle.entry_core.specs.declared.answers.Verdict.{Verdict}

@@ -1,7 +1,7 @@
 //! The run on the caller's own thread.
 
-ghost use Rattle.std.specs.Prelude.{◌≡◌, ◌≢◌, ◌<◌, ◌≤◌, ◌⊎◌, ◌↔◌, ◌^◌, ℕ, List, Option};
-ghost use Rattle.std.specs.Prelude.{[], Some, None, true, false, nat_lt, map, take, string_bytes};
+ghost use Rattle.std.specs.Prelude.{◌≡◌, ◌≢◌, ◌<◌, ◌≤◌, ◌⊎◌, ◌↔◌, ◌^◌, ℕ, List, Option, [], Some, None};
+ghost use Rattle.std.specs.Prelude.{true, false, nat_lt, map, take, string_bytes};
 ghost use Rattle.std.specs.Prelude.{IfOk, IfSome, OnErr, OnOk, MatchOption};
 ghost use Rattle.sat_base.specs.Lit.{variables};
 ghost use Rattle.run_io.specs.Bytes.{IsEmptyWhereTold, appended};
@@ -87,8 +87,8 @@ pub fn run_alone<S: Source, O: Sink>(
         MatchOption result.board
         (HadNoBoard (S.left source.old) (S.left source.new) (O.taken out.old) (O.taken out.new)
         result.status)
-        (IsRunOn command.work (rules_of command) (S.left source.old) (S.left source.new)
-        (S.ended source.new) (nat_lt (S.faults source.old) (S.faults source.new))
+        (IsRunOn command.work (rules_of command) (S.left source.old) (S.left source.new) (S.ended source.new)
+        (nat_lt (S.faults source.old) (S.faults source.new))
         (O.taken out.old) (O.taken out.new) result.status) }
     ensures causes { IfSome result.board (λ board. (job : ℕ) (given : Verdict) →
         settled board.rules board.journal job ≡ Some given →

@@ -1,8 +1,8 @@
-use Rattle.std.proofs.Common.{◌≡◌, ◌⊎◌, subst, map, string_bytes}
+use Rattle.std.proofs.Common.{◌≡◌, ◌⊎◌, subst, map, nat_lt, string_bytes}
 use Rattle.std.specs.Prelude.{MatchOption}
 use Rattle.entry_core.specs.declared.rules.Rules.{Rules}
 use Rattle.words.specs.Accepted.{accepted}
-use Rattle.tarmo_run.specs.Output.{IsAnswered}
+use Rattle.tarmo_run.specs.Output.{IsAnswered, IsRun}
 use Rattle.tarmo_run.proofs.Completeness.{complete_over, not_broken, same_rules}
 use Rattle.tarmo_run.proofs.Reached.{unfailing}
 use Rattle.tarmo_run.proofs.alone.run_alone.Goals as goal
