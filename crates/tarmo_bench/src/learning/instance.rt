@@ -81,7 +81,7 @@ fn load(alloc: Global, vars: u32) -> Result<Store, AllocError>
         let clause = clause_of(alloc, pair.as_slice())?;
         add(&mut store, vars, &clause, Ref::Input(number))?;
     }
-    for var in 7..=vars {
+    for var in 7..vars + 1 {
         number = number.saturating_add(1);
         let clause = clause_of(alloc, &[var as i32])?;
         add(&mut store, vars, &clause, Ref::Input(number))?;
