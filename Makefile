@@ -6,6 +6,7 @@ JOBS ?= $(shell nproc)
 
 .PHONY: run try prove install examples test bench profile
 .PHONY: bench-reader bench-checker bench-trace bench-learning bench-board bench-lock bench-service
+.PHONY: bench-sums
 
 # Proves what isn't proved yet, crates side by side, and says which; then builds the program and
 # solves FILE.
@@ -40,6 +41,10 @@ test:
 bench:
 	cd crates/tarmo_bench && rt run > /dev/null
 	bench/measure.py $(ARGS)
+
+# The summaries of `tarmo --sum N` for 21 numbers beside what the peers answer on the same texts.
+bench-sums:
+	bench/sums.py
 
 # The twenty functions of the built program that take most instructions on FILE, by valgrind.
 profile:
