@@ -6,7 +6,7 @@ JOBS ?= $(shell nproc)
 
 .PHONY: run try prove install examples test bench profile
 .PHONY: bench-reader bench-checker bench-trace bench-learning bench-board bench-lock bench-service
-.PHONY: bench-sums
+.PHONY: bench-sums bench-layouts
 
 # Proves what isn't proved yet, crates side by side, and says which; then builds the program and
 # solves FILE.
@@ -45,6 +45,10 @@ bench:
 # The summaries of `tarmo --sum N` for 21 numbers beside what the peers answer on the same texts.
 bench-sums:
 	bench/sums.py
+
+# What three layouts of watch lists cost in one small solver that is no part of Tarmo.
+bench-layouts:
+	bench/layouts.py
 
 # The twenty functions of the built program that take most instructions on FILE, by valgrind.
 profile:
