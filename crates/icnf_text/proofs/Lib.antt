@@ -10,3 +10,4 @@ pub mod Runs
 pub mod Fronts
 pub mod ReadBack
 pub mod AheadRead
+pub mod WithinLimits

@@ -1,4 +1,5 @@
 pub mod Jobs
+pub mod Law
 pub mod Layout
 pub mod Number
 pub mod Judgement

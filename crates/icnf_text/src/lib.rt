@@ -6,6 +6,7 @@
 
 mod ahead;
 mod faults;
+mod laws;
 mod parser;
 mod places;
 mod printing;
@@ -15,6 +16,7 @@ mod statements;
 mod words;
 
 pub use faults::{Fault, Reason};
+pub use laws::each_text_is_within_limits;
 pub use printing::print;
 pub use reader::{Fed, Reader};
 pub use statements::{Numbered, Statement, Statements};

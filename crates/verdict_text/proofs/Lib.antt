@@ -1,4 +1,5 @@
 pub mod JobLines
 pub mod BlockLines
 pub mod LinesBack
+pub mod Literals
 pub mod RoundTrip

@@ -10,25 +10,35 @@ ghost use Rattle.verdict_text.specs.Block.{model_lits, shown_of, shown_of_answer
 ghost use Rattle.verdict_text.specs.declared.blocks.Shown.TheVariants as shown;
 
 use entry_core::{Answer, Verdict};
+use itoa::write_digits;
 use line_tokens::{print_lits, print_number};
 use sat_base::Cube;
 use std::alloc::{AllocError, Global};
 use trace_core::Step;
 use trace_text::print_onto;
 
+// The bytes of the longest literal: a sign, the digits of the greatest variable and a space.
+const LONGEST: usize = 9;
+
+// The most bytes of a block besides literals and steps.
+const BESIDES: usize = 31;
+
 // Adds the literal of a variable that this value makes true, with a space behind it.
 fn print_value(out: &mut Vec<u8>, variable: u64, value: bool) -> Result<(), AllocError>
+    requires { variable ≤ 8388607 }
     ensures { OnOk result (out.new.items ≡ out.old.items ++ lit_text (lit_with variable value)) }
 {
-    if !value {
-        out.extend_from_slice(b"-")?;
-    }
-    print_number(out, variable)?;
-    out.extend_from_slice(b" ")
+    let mut text = [b' '; LONGEST];
+    let digits = write_digits(variable, &mut text, LONGEST - 1);
+    let sign = digits - 1;
+    text[sign] = b'-';
+    let start = if value { digits } else { sign };
+    out.extend_from_slice(&text[start..])
 }
 
 // Adds the literals that the values make true, each with a space behind it.
 fn print_values(out: &mut Vec<u8>, values: &[bool]) -> Result<(), AllocError>
+    requires { length values.now ≤ 8388607 }
     ensures { OnOk result
         (out.new.items ≡ out.old.items ++ flat_map lit_text (model_lits 1 values.now)) }
 {
@@ -40,6 +50,7 @@ fn print_values(out: &mut Vec<u8>, values: &[bool]) -> Result<(), AllocError>
 
 // Adds what stands behind the number of a job that has this model.
 fn print_model(out: &mut Vec<u8>, values: &[bool]) -> Result<(), AllocError>
+    requires { length values.now ≤ 8388607 }
     ensures { OnOk result (out.new.items ≡ out.old.items ++ shown_text 0 (shown.Model values.now)) }
 {
     out.extend_from_slice(b" SATISFIABLE\nv ")?;
@@ -108,6 +119,23 @@ fn print_verdict(
     }
 }
 
+// How many literals the block of this answer has besides its steps.
+fn lits_of(answer: &Answer) -> usize {
+    match answer {
+        Answer::Model(model) => model.values().len(),
+        Answer::Refuted(part, _) => part.lits().len(),
+    }
+}
+
+// Room for the block of this verdict but its steps.
+fn room(verdict: &Verdict) -> usize {
+    let lits = match verdict {
+        Verdict::Answered(answer) => lits_of(answer),
+        _ => 0,
+    };
+    lits.saturating_mul(LONGEST).saturating_add(BESIDES)
+}
+
 /// The block of a job, where `inputs` is the number of its input clauses: `j N` and the word of its
 /// verdict; under `SATISFIABLE` a line `v` with the literal of each variable that the model makes
 /// true and `0`; under `UNSATISFIABLE` a line `f` with the literals of the part and `0`, and with
@@ -126,7 +154,7 @@ pub fn block(
         (λ text. IsBlock inputs
         (record { job = job; shown = shown_of trace verdict.now }) text.items) }
 {
-    let mut out = Vec::new(alloc);
+    let mut out = Vec::with_capacity(alloc, room(verdict))?;
     out.extend_from_slice(b"j ")?;
     print_number(&mut out, job as u64)?;
     print_verdict(&mut out, inputs, verdict, trace)?;

@@ -1,0 +1,4 @@
+pub mod Hint
+pub mod Hints
+pub mod Layout
+pub mod Table
