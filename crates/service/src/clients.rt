@@ -2,7 +2,9 @@
 
 ghost use Rattle.std.specs.Prelude.{◌≡◌, ◌+◌, ◌<◌, ◌≤◌, ℕ, List, Some, [], ◌∷◌, ◌++◌, All, map};
 ghost use Rattle.std.specs.Prelude.{IfOk, OnOk, IfErr, OnErr};
-ghost use Rattle.entry_core.specs.Journal.{closing_place};
+ghost use Rattle.std.specs.Arc.{arc_value};
+ghost use Rattle.trace_core.specs.Known.{item_at};
+ghost use Rattle.entry_core.specs.Journal.{closing_place, segments};
 ghost use Rattle.turn_lock.specs.declared.view.Look.TheVariants.{Turn, Count};
 ghost use Rattle.turn_lock.specs.Passes.{IsOf};
 ghost use Rattle.board_core.specs.Replies.{HasVerdict, HasOutcome, IsNoJob, IsLookFault};
@@ -14,9 +16,10 @@ ghost use Rattle.service.specs.Replies.{IsAddRefusal, LookedAtOnce, IsTryFault};
 
 use crate::faults::TryFault;
 use crate::service::{ClientPass, Service};
-use board_core::{AddFault, AskFault, CancelFault, LookFault};
+use board_core::{AddFault, AskFault, Board, CancelFault, LookFault};
 use entry_core::{Clauses, Outcome, Segment, Verdict};
 use sat_base::Cube;
+use std::alloc::AllocError;
 use std::sync::{Arc, Wait};
 
 impl Service {
@@ -74,6 +77,29 @@ impl Service {
     {
         let mut held = self.lock.enter(rt, pass);
         let answer = held.value().verdict(job);
+        self.put_back(pass, held);
+        answer
+    }
+
+    /// A settled job: what was added with it, and its verdict, by one hold.
+    pub fn settled_job<R: Wait>(
+        &self,
+        rt: &R,
+        pass: &mut ClientPass,
+        job: u32,
+    ) -> Result<(Arc<Segment>, Verdict), AskFault>
+        requires ready { IsReady self.now.lock pass.old }
+        requires client { IsClientPass self.now.lock pass.old }
+        ensures keeps { Keeps self.now.lock pass.old pass.new }
+        ensures looked { Looked self.now.lock pass.old pass.new }
+        ensures segment { IfOk result
+            (λ found. item_at (segments pass.new.seen) job ≡ Some (arc_value found.0)) }
+        ensures verdict { IfOk result
+            (λ found. HasVerdict (board_of self.now.lock pass.new.seen) job found.1) }
+        ensures refused { IfErr result (IsAskFault (board_of self.now.lock pass.new.seen) job) }
+    {
+        let mut held = self.lock.enter(rt, pass);
+        let answer = look_up(held.value(), job);
         self.put_back(pass, held);
         answer
     }
@@ -192,5 +218,19 @@ impl Service {
             Err(LookFault::NoSuchJob(jobs)) => Err(TryFault::NoSuchJob(jobs)),
             Err(LookFault::NotYet) => Err(TryFault::NotYet),
         }
+    }
+}
+
+// A settled job of the board.
+fn look_up(board: &Board, job: u32) -> Result<(Arc<Segment>, Verdict), AskFault>
+    ensures segment { IfOk result
+        (λ found. item_at (segments board.now.journal) job ≡ Some (arc_value found.0)) }
+    ensures verdict { IfOk result (λ found. HasVerdict board.now job found.1) }
+    ensures refused { IfErr result (IsAskFault board.now job) }
+{
+    let verdict = board.verdict(job)?;
+    match board.segment(job) {
+        Ok(segment) => Ok((segment, verdict)),
+        Err(AllocError) => Err(AskFault::Memory),
     }
 }
