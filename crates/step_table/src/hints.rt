@@ -69,6 +69,16 @@ impl HintTable {
         }
     }
 
+    /// Equal names.
+    pub(crate) fn copy(&self, alloc: Global) -> Result<HintTable, AllocError>
+        ensures { IfOk result (λ copy. copy ≡ self.now) }
+    {
+        Ok(HintTable {
+            codes: Vec::from_slice(alloc, &self.codes)?,
+            listed: Vec::from_slice(alloc, &self.listed)?,
+        })
+    }
+
     /// How many names there are.
     pub(crate) fn len(&self) -> usize
         ensures { result ≡ length self.now }

@@ -6,6 +6,10 @@
 #![tactic(auto)]
 
 mod hints;
+mod step_ref;
 mod table;
+#[cfg(test)]
+mod tests;
 
+pub use step_ref::StepRef;
 pub use table::Steps;
