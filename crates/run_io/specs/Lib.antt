@@ -1,4 +1,5 @@
 pub mod Bytes
+pub mod DoorSourceState
 pub mod Fault
 pub mod MemorySinkState
 pub mod MemorySourceState

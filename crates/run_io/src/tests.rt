@@ -1,4 +1,6 @@
 //! What no clause says: worked cases, and calls of the system.
+mod doors;
+
 use super::*;
 use std::alloc::{AllocError, Global};
 use std::cell::Cell;
