@@ -1,10 +1,15 @@
 -- What was learnt is kept through one call after another.
-use Rattle.std.proofs.Common.{ℕ, ◌+◌, List, refl, ap, ◌∙◌}
+use Rattle.std.proofs.Common.{◌≡◌, ℕ, ◌+◌, ◌≤◌, List, [], ◌++◌, length, Result, Ok, Err, refl, ap, subst, ◌∙◌}
+use Rattle.std.specs.Prelude.{IfOk, OnErr, OnOk}
 use Rattle.session.specs.Loading.{loaded, tagged}
+use Rattle.session.specs.Session.{SessionView}
 use Rattle.session.specs.Solver.{Solver, packet_at}
 use Rattle.session.specs.Solving.{Keeps}
 use Rattle.session.proofs.Settled.{same_front, front_twice}
+use Rattle.worker_loop.specs.declared.attempt.Attempt.{Attempt}
+use Rattle.worker_loop.specs.declared.ends.End.{End}
 use Rattle.worker_loop.specs.Kept.{KeepsLearnt}
+use Rattle.worker_loop.specs.Rounds.{HasLearntOn, HasPursued, IsLearntBefore, IsListOf, IsOfLearnt}
 
 pub keeps_itself : (solver : Solver) → Keeps solver solver
 keeps_itself solver = record {
@@ -54,3 +59,23 @@ kept_loaded old clauses = record {
   learnt = same_front old.learnt;
   packets = λ place packet is. is;
 }
+
+-- one that loads a job, or finds no memory, learns nothing
+pub loads_learnt : {T E : Type 0} (old new : SessionView) (clauses : List (List ℕ)) (r : Result T E) → OnOk r (new ≡ record old { solver = loaded old.solver clauses }) → OnErr r (new ≡ old) → new.solver.learnt ≡ old.solver.learnt
+loads_learnt old new clauses (Ok done) ok err = ap (λ (s : SessionView). s.solver.learnt) ok
+loads_learnt old new clauses (Err e) ok err = ap (λ (s : SessionView). s.solver.learnt) err
+
+-- What an attempt learnt that began with no clause listed.
+pub pursued : {E : Type 0} (old first new : Solver) (job budget : ℕ) (before after : Attempt) (r : Result End E) → IsLearntBefore old job first.learnt → before.learnt.items ≡ []
+    → OnOk r (HasLearntOn first new before after budget) → IfOk r (IsOfLearnt new after) → IfOk r (HasPursued old new job budget)
+pursued old first new job budget before after (Err e) begins none learns listed = tt
+pursued old first new job budget before after (Ok end) begins none learns listed =
+    let same : after.learnt.items ≡ learns.names = learns.listed ∙ ap (λ (all : List ℕ). all ++ learns.names) none in
+    record {
+      first = first.learnt;
+      begins = begins;
+      names = learns.names;
+      learnt = learns.learnt;
+      few = subst (λ (all : List ℕ). length all ≤ budget) same learns.few;
+      listed = subst (λ (all : List ℕ). IsListOf new.steps all end) same listed;
+    }

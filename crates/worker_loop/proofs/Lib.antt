@@ -22,3 +22,4 @@ pub mod Slicing
 pub mod Segmented
 pub mod Served
 pub mod Opening
+pub mod EndedOnce

@@ -77,7 +77,7 @@ pub its_number : (rules : Rules) (journal : List Entry) (number : ℕ) (a : Atte
 its_number rules journal number a legal found = at_numbers rules [] journal (λ k x is. absurd (let place = item_place {X = Attempt} [] k x is in let to = place.1 in let from = place.0 in omega arith)) legal number a found
 
 -- An attempt is ended by the one that began it.
-ends_own : (rules : Rules) (before : List Entry) (caller : ℕ) (happened : Event) (number : ℕ) → ended_by happened ≡ Some number → IsAllowed rules before caller happened → (begun : Attempt) × IsRunning before caller number begun
+pub ends_own : (rules : Rules) (before : List Entry) (caller : ℕ) (happened : Event) (number : ℕ) → ended_by happened ≡ Some number → IsAllowed rules before caller happened → (begun : Attempt) × IsRunning before caller number begun
 ends_own rules before caller (event.Spent n learnt) number is allowed = subst (λ m. (begun : Attempt) × IsRunning before caller m begun) (same_Some n number is) (allowed.begun, allowed.running)
 ends_own rules before caller (event.Dropped n) number is allowed = subst (λ m. (begun : Attempt) × IsRunning before caller m begun) (same_Some n number is) (allowed.begun, allowed.running)
 ends_own rules before caller (event.Decided n given) number is allowed = subst (λ m. (begun : Attempt) × IsRunning before caller m begun) (same_Some n number is) (allowed.begun, allowed.running)

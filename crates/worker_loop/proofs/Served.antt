@@ -14,6 +14,7 @@ use Rattle.entry_core.specs.declared.entries.Event.TheVariants as event
 use Rattle.entry_core.specs.declared.rules.Rules.{Rules}
 use Rattle.entry_core.specs.Attempts.{Attempt, begun_by, attempts, ended_by, ended}
 use Rattle.entry_core.specs.Legal.{IsLegal}
+use Rattle.entry_core.specs.Schedule.{IsNext}
 use Rattle.turn_lock.specs.Entries.{AddsOwn}
 use Rattle.board_core.specs.State.{State, entered}
 use Rattle.board_core.specs.Replies.{IsBegun, IsDone, IsOwn, IsTask, job_at}
@@ -137,6 +138,14 @@ rests_on lock old mid new before after caller (Ok told) work rests at known took
 rests_on lock old mid new before after caller (Err e) work rests at known took by err left =
     let rules : after.rules ≡ lock.basis = ap (λ (b : State). b.rules) err ∙ at in
     at_pass IsResting lock mid new after caller rules by left (subst (λ (b : State). IsResting b caller) (sym err) (rested_before lock old mid before caller work rests known took by))
+
+-- A job is to take where taking one failed.
+pub wanted_on : {E : Type 0} (lock : BoardLock) (mid new : BoardPass) (before after : State) (r : Result Task E) → before.rules ≡ lock.basis
+    → OnErr r ((job : ℕ) × IsNext before.rules before.journal job) → OnErr r (after ≡ before) → new ≡ leaving mid after → OnErr r ((job : ℕ) × IsNext lock.basis new.seen job)
+wanted_on lock mid new before after (Ok told) at wanted err left = tt
+wanted_on lock mid new before after (Err e) at wanted err left =
+    let rules : after.rules ≡ lock.basis = ap (λ (b : State). b.rules) err ∙ at in
+    subst (λ (b : State). (job : ℕ) × IsNext b.rules b.journal job) (sym err ∙ sym (seen_is lock mid new after rules left)) wanted
 
 -- An attempt may end at the board.
 pub open_before : (lock : BoardLock) (old mid : BoardPass) (before : State) (caller number job : ℕ) → IsAtWork lock old → before.rules ≡ lock.basis → Knows old before → TookTurn old mid before.journal → caller ≡ mid.number

@@ -17,6 +17,7 @@ use Rattle.worker_loop.specs.declared.ends.End.{End}
 use Rattle.worker_loop.specs.declared.ends.End.TheVariants.{Answered, Spent}
 use Rattle.worker_loop.specs.Fits.{Fits}
 use Rattle.worker_loop.specs.Kept.{KeepsLearnt}
+use Rattle.worker_loop.specs.Rounds.{HasPursued}
 use Rattle.worker_loop.specs.Working.{HasAttemptsMore, IsResting}
 
 -- an open attempt of the caller at this job of the board
@@ -52,11 +53,12 @@ pub record IsNewBench (bench : Bench) : Type 0 where
   pub packets : bench.packets.items ≡ []
 
 -- The attempt ended with what it found, at its job. Nothing that was learnt before is lost, unless
--- the session was past the job.
+-- the session was past the job, and no more was learnt than the budget allows.
 pub record IsFoundAt (old new : State) (caller number job : ℕ) (bench bench' : Bench) : Type 0 where
   pub end : End
   pub ends : EndsBy old new caller number (event_of number (Some end))
   pub bound : bench'.session.solver.bound ≡ job
+  pub pursued : HasPursued bench.session.solver bench'.session.solver job old.rules.conflicts end
   pub kept : bench.session.solver.bound ≤ job
       → KeepsLearnt bench.session.solver bench'.session.solver
 

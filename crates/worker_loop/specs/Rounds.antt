@@ -1,8 +1,9 @@
 -- The rounds of an attempt.
-use Rattle.std.specs.Prelude.{◌≡◌, ℕ, ◌-◌, ◌<◌, ◌≤◌, Bool, min, List, ◌++◌, length, Option, None}
+use Rattle.std.specs.Prelude.{◌≡◌, ℕ, ◌-◌, ◌<◌, ◌≤◌, Bool, min, List, [], ◌++◌, length, Option, None}
 use Rattle.std.specs.Prelude.{Some}
 use Rattle.std.specs.Arc.{arc_value}
 use Rattle.sat_base.specs.Truth.{IsModelOf}
+use Rattle.trace_core.specs.declared.derivation.Step.{Step}
 use Rattle.entry_core.specs.declared.answers.Answer.{Answer}
 use Rattle.session.specs.declared.rounds.Round.{Round}
 use Rattle.session.specs.declared.rounds.Round.TheVariants.{Model, Refuted, Paused}
@@ -45,11 +46,29 @@ pub record HasLearntOn (old new : Solver) (before after : Attempt) (budget : ℕ
   pub listed : after.learnt.items ≡ before.learnt.items ++ names
   pub few : length after.learnt.items ≤ budget
 
+-- a spent list is the clauses of the own steps of these numbers
+abbrev pub IsListOf : List Step → List ℕ → End → Type 0
+IsListOf steps names (Answered answer) = Unit {0}
+IsListOf steps names (Spent learnt) = arc_value learnt ≡ clauses_at steps names
+
 -- a spent list is the clauses of the own steps that the attempt lists
 abbrev pub IsOfLearnt : Solver → Attempt → End → Type 0
-IsOfLearnt solver attempt (Answered answer) = Unit {0}
-IsOfLearnt solver attempt (Spent learnt) =
-    arc_value learnt ≡ clauses_at solver.steps attempt.learnt.items
+IsOfLearnt solver attempt end = IsListOf solver.steps attempt.learnt.items end
+
+-- What the session has learnt when an attempt at the job begins: nothing where it was past the job,
+-- and else what it had learnt.
+abbrev pub IsLearntBefore : Solver → ℕ → List ℕ → Type 0
+IsLearntBefore old job first = (old.bound ≤ job → first ≡ old.learnt) × (job < old.bound → first ≡ [])
+
+-- An attempt at the job learnt these clauses, at most as many as the budget allows, and a spent
+-- list is exactly these.
+pub record HasPursued (old new : Solver) (job budget : ℕ) (end : End) : Type 0 where
+  pub first : List ℕ
+  pub begins : IsLearntBefore old job first
+  pub names : List ℕ
+  pub learnt : new.learnt ≡ first ++ names
+  pub few : length names ≤ budget
+  pub listed : IsListOf new.steps names end
 
 -- An answer comes after a round with an answer, a spent list where the round paused and the
 -- attempt has learnt as much as the budget allows, and no end where it has learnt less.

@@ -1,8 +1,9 @@
 -- What a worker does to a board.
-use Rattle.std.specs.Prelude.{◌≡◌, ℕ, List, ◌++◌, All}
+use Rattle.std.specs.Prelude.{◌≡◌, ◌==◌, ℕ, Some, List, ◌++◌, All, count_by}
 use Rattle.entry_core.specs.declared.entries.Entry.{Entry}
 use Rattle.entry_core.specs.declared.entries.Event.{Event}
 use Rattle.entry_core.specs.declared.entries.Event.TheVariants as event
+use Rattle.entry_core.specs.Attempts.{Attempt, attempt, ended}
 use Rattle.board_core.specs.State.{State}
 use Rattle.board_core.specs.Replies.{IsOwn}
 
@@ -29,3 +30,13 @@ pub record HasAttemptsMore (old new : State) (caller : ℕ) : Type 0 where
 -- the caller has no open attempt
 abbrev pub IsResting : State → ℕ → Type 0
 IsResting board caller = (number : ℕ) → IsOwn board caller number → ⊥
+
+-- how many entries end the attempt of this number
+abbrev pub ends_of : List Entry → ℕ → ℕ
+ends_of journal number = count_by (λ other. other == number) (ended journal)
+
+-- Each attempt that the caller began was ended, by one entry.
+abbrev pub EndsEachOnce : State → ℕ → Type 0
+EndsEachOnce board caller = (number : ℕ) (begun : Attempt)
+    → attempt board.journal number ≡ Some begun → begun.worker ≡ caller
+    → ends_of board.journal number ≡ 1

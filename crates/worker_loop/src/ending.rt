@@ -8,6 +8,7 @@ ghost use Rattle.worker_loop.specs.Attempts.{EndsBy, HasEnded, HasMade, IsAt, ev
 ghost use Rattle.worker_loop.specs.Ends.{IsEnd};
 ghost use Rattle.worker_loop.specs.Fits.{Fits};
 ghost use Rattle.worker_loop.specs.Kept.{KeepsLearnt};
+ghost use Rattle.worker_loop.specs.Rounds.{HasPursued};
 
 use crate::attempt::Attempt;
 use crate::attempts::pursue;
@@ -55,6 +56,9 @@ pub(crate) fn pursue_job(
     ensures fits { OnOk result (Fits bench.new board.now.journal) }
     ensures bound { OnOk result (bench.new.session.solver.bound ≡ job) }
     ensures end { IfOk result (IsEnd board.now.rules board.now.journal job) }
+    // No more is learnt than the budget allows, and a spent list is what was learnt since.
+    ensures pursued { IfOk result (HasPursued bench.old.session.solver bench.new.session.solver
+        job board.now.rules.conflicts) }
     ensures kept { bench.old.session.solver.bound ≤ job
         → KeepsLearnt bench.old.session.solver bench.new.session.solver }
 {

@@ -5,6 +5,7 @@ ghost use Rattle.std.specs.Arc.{arc_value};
 ghost use Rattle.trace_core.specs.Known.{item_at};
 ghost use Rattle.entry_core.specs.Journal.{segments};
 ghost use Rattle.entry_core.specs.Legal.{IsLegal};
+ghost use Rattle.entry_core.specs.Schedule.{IsNext};
 ghost use Rattle.board_core.specs.Replies.{IsJob};
 ghost use Rattle.service.specs.Passes.{Keeps, board_of};
 ghost use Rattle.worker_loop.specs.Attempts.{EndsBy, event_of};
@@ -36,6 +37,8 @@ pub(crate) fn take_once<R: Wait>(
     ensures keeps { Keeps service.now.lock pass.old pass.new }
     ensures taken { IfOk result (HasTaken service.now.lock pass.new) }
     ensures err { OnErr result (Rests service.now.lock pass.new) }
+    ensures wanted { OnErr result
+        ((job : ℕ) × IsNext service.now.lock.basis pass.new.seen job) }
 {
     let mut held = service.hold(rt, pass);
     let answer = held.value().take(pass.number());

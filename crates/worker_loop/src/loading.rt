@@ -7,6 +7,7 @@ ghost use Rattle.entry_core.specs.declared.entries.Entry.{Entry};
 ghost use Rattle.board_core.specs.Replies.{IsJob};
 ghost use Rattle.worker_loop.specs.Fits.{Fits, KnowsRead};
 ghost use Rattle.worker_loop.specs.Kept.{KeepsLearnt};
+ghost use Rattle.worker_loop.specs.Rounds.{IsLearntBefore};
 
 use crate::bench::Bench;
 use crate::importing::import_waiting;
@@ -29,6 +30,7 @@ pub(crate) fn bring_to(
     ensures fits { OnOk result (Fits bench.new board.now.journal) }
     ensures bound { OnOk result (bench.new.session.solver.bound ≡ job) }
     ensures known { OnOk result (KnowsRead bench.new) }
+    ensures learnt { IsLearntBefore bench.old.session.solver job bench.new.session.solver.learnt }
     ensures kept { bench.old.session.solver.bound ≤ job
         → KeepsLearnt bench.old.session.solver bench.new.session.solver }
 {
@@ -46,6 +48,7 @@ pub(crate) fn bring_to(
 pub(crate) fn begin_anew_past(alloc: Global, variant: u32, bench: &mut Bench, job: u32)
     ensures fits { (journal : List Entry) → Fits bench.old journal → Fits bench.new journal }
     ensures up_to { bench.new.session.solver.bound ≤ job }
+    ensures learnt { IsLearntBefore bench.old.session.solver job bench.new.session.solver.learnt }
     ensures kept { bench.old.session.solver.bound ≤ job
         → KeepsLearnt bench.old.session.solver bench.new.session.solver }
 {
@@ -67,6 +70,7 @@ pub(crate) fn load_next(bench: &mut Bench, segment: &Segment) -> Result<(), Allo
     ensures bound { OnOk result
         (bench.new.session.solver.bound ≡ bench.old.session.solver.bound + 1) }
     ensures kept { KeepsLearnt bench.old.session.solver bench.new.session.solver }
+    ensures learnt { bench.new.session.solver.learnt ≡ bench.old.session.solver.learnt }
     ensures err { OnErr result (bench.new ≡ bench.old) }
 {
     bench.session.load(segment.clauses.items(), &segment.cube)

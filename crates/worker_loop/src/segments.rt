@@ -46,6 +46,7 @@ pub(crate) fn load_all(bench: &mut Bench, found: &[Arc<Segment>]) -> Result<(), 
     ensures bound { OnOk result (bench.new.session.solver.bound
         ≡ bench.old.session.solver.bound + length found.now) }
     ensures kept { KeepsLearnt bench.old.session.solver bench.new.session.solver }
+    ensures learnt { bench.new.session.solver.learnt ≡ bench.old.session.solver.learnt }
 {
     for segment in found {
         load_next(bench, segment)?;

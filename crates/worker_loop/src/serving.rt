@@ -1,12 +1,14 @@
 //! A worker on a service.
 
-ghost use Rattle.std.specs.Prelude.{◌≡◌, ◌<◌, ◌≤◌, length, IfOk, IfSome, OnOk};
+ghost use Rattle.std.specs.Prelude.{◌≡◌, ℕ, ◌<◌, ◌≤◌, length, IfOk, IfSome, OnErr, OnOk};
+ghost use Rattle.entry_core.specs.Schedule.{IsNext};
 ghost use Rattle.board_core.specs.Replies.{IsDone};
 ghost use Rattle.service.specs.Passes.{Keeps, board_of};
 ghost use Rattle.worker_loop.specs.Ends.{IsEnd};
 ghost use Rattle.worker_loop.specs.Fits.{Fits};
 ghost use Rattle.worker_loop.specs.Slices.{GoesOnOpen, HasOpen, IsAtWork, IsUnderWay};
 ghost use Rattle.worker_loop.specs.Work.{HasOnly, Rests};
+ghost use Rattle.worker_loop.specs.Working.{EndsEachOnce};
 
 use crate::attempt::Attempt;
 use crate::bench::Bench;
@@ -41,6 +43,10 @@ pub fn work<R: Threads + Wait + Sync, G: Gate>(
     ensures keeps { Keeps service.now.lock pass.old pass.new }
     ensures rests { Rests service.now.lock pass.new }
     ensures done { OnOk result (IsDone (board_of service.now.lock pass.new.seen)) }
+    ensures ended { EndsEachOnce (board_of service.now.lock pass.new.seen) pass.new.number }
+    // The error comes from taking a job alone.
+    ensures wanted { OnErr result
+        ((job : ℕ) × IsNext service.now.lock.basis pass.new.seen job) }
 {
     let mut bench = Bench::new(alloc, variant);
     for _ in rt.forever() {
@@ -107,17 +113,40 @@ fn pursue_job_on<R: Wait>(
     ensures end { IfOk result
         (λ end. IfSome end (IsEnd service.now.lock.basis pass.new.seen job)) }
 {
+    let mut attempt = start_attempt(rt, alloc, service, pass, bench, variant, job, number)?;
+    slice_to_the_end(rt, alloc, service, pass, bench, &mut attempt)
+}
+
+/// Brings the bench to the job of an attempt that was begun, so that it can be sliced.
+pub(crate) fn start_attempt<R: Wait>(
+    rt: &R,
+    alloc: Global,
+    service: &Service,
+    pass: &mut WorkerPass,
+    bench: &mut Bench,
+    variant: u32,
+    job: u32,
+    number: u32,
+) -> Result<Attempt, AllocError>
+    requires work { IsAtWork service.now.lock pass.old }
+    requires open { HasOpen service.now.lock pass.old number job }
+    requires fits { Fits bench.old pass.old.seen }
+    ensures on { GoesOnOpen service.now.lock pass.old pass.new number job }
+    ensures attempt { IfOk result (λ attempt. (attempt.number ≡ number) × (attempt.job ≡ job)) }
+    ensures under_way { IfOk result (IsUnderWay service.now.lock pass.new bench.new) }
+    ensures left { IfOk result
+        (λ attempt. length attempt.learnt.items < service.now.lock.basis.conflicts) }
+{
     begin_anew_past(alloc, variant, bench, job);
     let needs = look_once(rt, alloc, service, pass, bench, job)?;
     load_all(bench, &needs.unloaded)?;
     import_waiting(bench)?;
-    let mut attempt = Attempt {
+    Ok(Attempt {
         job,
         number,
         cube: needs.segment.cube.copy(alloc)?,
         learnt: Vec::new(alloc),
-    };
-    slice_to_the_end(rt, alloc, service, pass, bench, &mut attempt)
+    })
 }
 
 /// Slices until the attempt has its end, or its job is settled: then there is none.

@@ -1,12 +1,12 @@
 //! A worker alone on a board.
 
-ghost use Rattle.std.specs.Prelude.{◌≡◌, ◌<◌, ℕ, IsSome, IsTrue, false, IfOk, OnOk};
+ghost use Rattle.std.specs.Prelude.{◌≡◌, ◌<◌, ℕ, IsSome, IsTrue, false, IfOk, OnErr, OnOk};
 ghost use Rattle.entry_core.specs.Legal.{IsWorker};
-ghost use Rattle.entry_core.specs.Schedule.{IsWaiting};
+ghost use Rattle.entry_core.specs.Schedule.{IsNext, IsWaiting};
 ghost use Rattle.entry_core.specs.Settled.{settled};
 ghost use Rattle.board_core.specs.Replies.{IsJob};
 ghost use Rattle.worker_loop.specs.Fits.{Fits};
-ghost use Rattle.worker_loop.specs.Working.{HasAttemptsMore, IsResting};
+ghost use Rattle.worker_loop.specs.Working.{EndsEachOnce, HasAttemptsMore, IsResting};
 ghost use Rattle.worker_loop.specs.Attempts.{IsBeforeWaiting, KeepsOn, left_on};
 
 use crate::bench::Bench;
@@ -28,7 +28,11 @@ pub fn work_alone(
     requires fits { Fits bench.old board.old.journal }
     ensures works { HasAttemptsMore board.old board.new caller }
     ensures resting { IsResting board.new caller }
+    ensures ended { EndsEachOnce board.new caller }
     ensures fits { Fits bench.new board.new.journal }
+    // The error comes from taking a job alone.
+    ensures wanted { OnErr result
+        ((job : ℕ) × IsNext board.new.rules board.new.journal job) }
     ensures idle { OnOk result ((job : ℕ) → ¬ IsWaiting board.new.rules board.new.journal job) }
     // With one worker, nothing that was learnt is lost, unless an attempt found no memory.
     ensures kept { board.old.rules.workers ≡ 1 → IsBeforeWaiting bench.old board.old
@@ -57,6 +61,9 @@ fn work_once(
     requires fits { Fits bench.old board.old.journal }
     ensures works { HasAttemptsMore board.old board.new caller }
     ensures resting { IsResting board.new caller }
+    ensures ended { EndsEachOnce board.new caller }
+    ensures wanted { OnErr result
+        ((job : ℕ) × IsNext board.new.rules board.new.journal job) }
     ensures fits { Fits bench.new board.new.journal }
     // With one worker, nothing that was learnt is lost, unless an attempt found no memory.
     ensures kept { board.old.rules.workers ≡ 1 → IsBeforeWaiting bench.old board.old
@@ -70,6 +77,7 @@ fn work_once(
     match board.take(caller)? {
         Task::Job { job, attempt } => {
             make_attempt(alloc, board, caller, bench, job, attempt);
+            let _ = board.journal();
             Ok(true)
         }
         Task::Done | Task::Idle => Ok(false),

@@ -6,7 +6,9 @@ use Rattle.entry_core.specs.declared.segments.Segment.{Segment}
 use Rattle.entry_core.specs.Journal.{cube_in, inputs_of}
 use Rattle.worker_loop.specs.Asked.{IsEndOver}
 use Rattle.worker_loop.specs.Ends.{IsEnd}
+use Rattle.worker_loop.specs.Rounds.{HasPursued}
 use Rattle.worker_loop.proofs.Asked.{end_for_job}
+use Rattle.worker_loop.proofs.Keeping.{pursued}
 use Rattle.worker_loop.proofs.ending.pursue_job.Goals as goal
 
 pub returns-clause-end : goal.returns-clause-end
@@ -17,3 +19,9 @@ returns-clause-end c =
     (c.in_ok-bring_to.ensures.fits.inputs ∙ ap (inputs_of c.args.board.now.journal) c.in_ok-bring_to.ensures.bound)
     (c.in_ok-cube.ensures ∙ ap (λ (s : Segment). s.cube) c.deref.ensures ∙ sym (ap cube_in c.in_ok-segment.ensures)) is)
     c.pursue.ensures.end)
+
+pub returns-clause-pursued : goal.returns-clause-pursued
+returns-clause-pursued c =
+    subst (λ (r : Rules). IfOk c.pursue.result (HasPursued c.args.bench.now.session.solver c.pursue.new.bench.session.solver c.args.job r.conflicts)) c.rules-rules.ensures.value
+    (pursued c.args.bench.now.session.solver c.bring_to.new.bench.session.solver c.pursue.new.bench.session.solver c.args.job c.rules-rules.result.now.conflicts _ c.pursue.new.attempt c.pursue.result
+    c.bring_to.ensures.learnt c.new.ensures.items c.pursue.ensures.learnt c.pursue.ensures.spent)

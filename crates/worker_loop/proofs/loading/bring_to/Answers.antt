@@ -1,9 +1,10 @@
-use Rattle.std.proofs.Common.{List, map, subst, sym}
+use Rattle.std.proofs.Common.{◌∙◌, List, map, subst, sym}
 use Rattle.std.specs.Arc.{arc_value}
 use Rattle.std.specs.declared.sync.Arc.{Arc}
 use Rattle.std.specs.declared.alloc.Global.{Global}
 use Rattle.entry_core.specs.declared.segments.Segment.{Segment}
 use Rattle.worker_loop.specs.Fits.{Fits}
+use Rattle.worker_loop.specs.Rounds.{IsLearntBefore}
 use Rattle.worker_loop.specs.Segments.{AreSegments}
 use Rattle.worker_loop.proofs.Fitting.{few_read}
 use Rattle.worker_loop.proofs.Imports.{can_be_taken, fits_imported, keeps_imported}
@@ -56,3 +57,14 @@ returns-clause-kept c = λ le.
     kept_twice c.args.bench.now.session.solver c.load_all.new.bench.session.solver c.import_waiting.new.bench.session.solver
     (kept_twice c.args.bench.now.session.solver c.begin_anew_past.new.bench.session.solver c.load_all.new.bench.session.solver (c.begin_anew_past.ensures.kept le) c.load_all.ensures.kept)
     (keeps_imported c.load_all.new.bench c.import_waiting.new.bench c.import_waiting.ensures.imported)
+
+pub returns-in_err-load_all-clause-learnt : goal.returns-in_err-load_all-clause-learnt
+returns-in_err-load_all-clause-learnt c = subst (IsLearntBefore c.args.bench.now.session.solver c.args.job) (sym c.load_all.ensures.learnt) c.begin_anew_past.ensures.learnt
+
+pub returns-clause-learnt : goal.returns-clause-learnt
+returns-clause-learnt c =
+    subst (IsLearntBefore c.args.bench.now.session.solver c.args.job) (sym (c.import_waiting.ensures.imported.learnt ∙ c.load_all.ensures.learnt)) c.begin_anew_past.ensures.learnt
+
+pub returns-in_err-load_all-clause-kept : goal.returns-in_err-load_all-clause-kept
+returns-in_err-load_all-clause-kept c = λ le.
+    kept_twice c.args.bench.now.session.solver c.begin_anew_past.new.bench.session.solver c.load_all.new.bench.session.solver (c.begin_anew_past.ensures.kept le) c.load_all.ensures.kept

@@ -34,4 +34,5 @@ loop-segment-preserved c = record {
       ∙ there ∙ ap Some (sym (c.deref.ensures ∙ ap arc_value c.segment-item.is))));
   bound = omega (arith, c.in_ok-load_next.ensures.bound, c.loop-segment.invariant.bound);
   kept = kept_twice c.args.bench.now.session.solver c.loop-segment.bench.session.solver c.load_next.new.bench.session.solver c.loop-segment.invariant.kept c.load_next.ensures.kept;
+  learnt = c.load_next.ensures.learnt ∙ c.loop-segment.invariant.learnt;
 }

@@ -11,4 +11,5 @@ invariant-loop-segment l = record {
   fits : (journal : List Entry) → Fits l.fn.bench journal → AreSegments journal l.fn.bench.session.solver.bound (map arc_value l.found) → Fits l.bench journal;
   bound : l.bench.session.solver.bound ≡ l.fn.bench.session.solver.bound + l.segment-index;
   kept : KeepsLearnt l.fn.bench.session.solver l.bench.session.solver;
+  learnt : l.bench.session.solver.learnt ≡ l.fn.bench.session.solver.learnt;
 }

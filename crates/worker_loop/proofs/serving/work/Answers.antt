@@ -1,6 +1,7 @@
-use Rattle.std.proofs.Common.{subst}
+use Rattle.std.proofs.Common.{rules, subst}
 use Rattle.service.proofs.Keeping.{keeps_then}
-use Rattle.worker_loop.specs.Work.{HasTaken}
+use Rattle.worker_loop.specs.Work.{HasTaken, Rests}
+use Rattle.worker_loop.proofs.EndedOnce.{ended_pass}
 use Rattle.worker_loop.proofs.Holding.{fits_on}
 use Rattle.worker_loop.proofs.serving.work.Goals as goal
 
@@ -16,3 +17,17 @@ loop-preserved-in-Idle g c = record {
   keeps = keeps_then c.args.service.now.lock c.args.pass.now c.loop.pass c.take_once.new.pass c.loop.invariant.keeps c.take_once.ensures.keeps;
   fits = fits_on c.args.service.now.lock c.loop.bench c.loop.pass c.take_once.new.pass c.take_once.ensures.keeps c.loop.invariant.fits;
 }
+
+pub returns-in_err-take_once-clause-ended : goal.returns-in_err-take_once-clause-ended
+returns-in_err-take_once-clause-ended g c =
+    let rests : Rests c.args.service.now.lock c.take_once.new.pass = search rules in
+    ended_pass c.args.service.now.lock c.take_once.new.pass c.take_once.ensures.work rests
+
+pub returns-in-Done-clause-keeps : goal.returns-in-Done-clause-keeps
+returns-in-Done-clause-keeps g c =
+    keeps_then c.args.service.now.lock c.args.pass.now c.loop.pass c.take_once.new.pass c.loop.invariant.keeps c.take_once.ensures.keeps
+
+pub returns-in-Done-clause-ended : goal.returns-in-Done-clause-ended
+returns-in-Done-clause-ended g c =
+    let taken = subst (HasTaken c.args.service.now.lock c.take_once.new.pass) c.in-Done.is c.in_ok-take_once.ensures.taken in
+    ended_pass c.args.service.now.lock c.take_once.new.pass c.take_once.ensures.work taken.0
