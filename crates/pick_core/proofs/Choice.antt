@@ -1,9 +1,10 @@
 -- A variable is assigned, or it is free.
-use Rattle.std.proofs.Common.{◌≡◌, ℕ, zero, suc, List, [], ◌∷◌, inl, inr, arith}
+use Rattle.std.proofs.Common.{◌≡◌, ◌∙◌, ℕ, zero, suc, List, [], ◌∷◌, ◌++◌, ap, inl, inr, arith}
 use Rattle.std.specs.Prelude.{◌⊎◌}
 use Rattle.std.proofs.lemmas.Bool.{cases_eq}
+use Rattle.std.proofs.lemmas.List.{length-append, get_or_append_left}
 use Rattle.sat_base.specs.Lit.{variable}
-use Rattle.trail_core.specs.Trail.{Entry, StandsAt, IsFree}
+use Rattle.trail_core.specs.Trail.{Entry, StandsAt, IsFree, no_entry}
 use Rattle.pick_core.specs.Assigned.{IsAssigned}
 
 pub assigned_or_free : (entries : List Entry) (var : ℕ) → IsAssigned entries var ⊎ IsFree entries var
@@ -25,3 +26,25 @@ is_assigned_where_not_free entries var n = by (assigned_or_free entries var)
     by : IsAssigned entries var ⊎ IsFree entries var → IsAssigned entries var
     by (inl a) = a
     by (inr f) = absurd (n f)
+
+-- while literals are added
+stands_on : (entries more : List Entry) (var place : ℕ) → StandsAt entries var place
+    → StandsAt (entries ++ more) var place
+stands_on entries more var place s = record {
+  within = omega (arith, s.within, length-append entries more);
+  is = ap (λ (e : Entry). variable e.lit)
+      (get_or_append_left entries more no_entry place s.within) ∙ s.is;
+}
+
+pub stays_assigned : (entries more : List Entry) (var : ℕ) → IsAssigned entries var
+    → IsAssigned (entries ++ more) var
+stays_assigned entries more var a = record {
+  place = a.place;
+  stands = stands_on entries more var a.place a.stands;
+}
+
+pub free_before : (entries more : List Entry) (var : ℕ) → IsFree (entries ++ more) var
+    → IsFree entries var
+free_before entries more var f = record {
+  none = λ place s. f.none place (stands_on entries more var place s);
+}

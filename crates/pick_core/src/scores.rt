@@ -69,6 +69,13 @@ impl Scores {
         self.heap.reserve(vars, at_end)
     }
 
+    /// How many variables were entered.
+    pub fn vars(&self) -> u32
+        ensures { result ≡ self.now.vars }
+    {
+        self.heap.items.len() as u32
+    }
+
     /// Adds the increment to the score of a variable; a score stands still at the greatest `u64`.
     /// Takes no memory.
     pub fn bump(&mut self, var: u32)

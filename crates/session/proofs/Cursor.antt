@@ -1,4 +1,4 @@
--- Variables that are assigned, and cursors that pass them.
+-- Cursors that pass true literals.
 use Rattle.std.proofs.Common.{◌≡◌, ◌∙◌, ℕ, ◌+◌, ◌-◌, ◌<◌, ◌≤◌, List, [], ◌∷◌, ◌++◌, length, take}
 use Rattle.std.proofs.Common.{drop, min, ap, sym, subst, inl, inr, arith}
 use Rattle.std.specs.Prelude.{◌⊎◌, All, Contains, nat_le}
@@ -6,30 +6,18 @@ use Rattle.std.proofs.lemmas.Bool.{cases_lt}
 use Rattle.std.proofs.lemmas.List.{map-append, take-append-drop, get_or_append_left, get_or_push}
 use Rattle.std.proofs.lemmas.List.{get_or-take}
 use Rattle.std.proofs.lemmas.List.Elements.{Contains-append_left, filter-append}
-use Rattle.sat_base.specs.Lit.{IsLit, variable, opposite}
 use Rattle.trail_core.specs.Trail.{Entry, TrailView, lits_of, up_to}
-use Rattle.trail_core.specs.UnderTrail.{IsUnassigned, HasGrown}
+use Rattle.trail_core.specs.UnderTrail.{HasGrown}
 use Rattle.trail_core.proofs.Levels.{up_to_all}
 use Rattle.session.specs.declared.search.Cursor.{Cursor}
-use Rattle.session.specs.OnTrail.{AreAssigned}
-use Rattle.session.specs.Cursors.{AreCursors, PassesAssigned, PassesTrue, cursor_at}
+use Rattle.session.specs.Cursors.{AreCursors, PassesTrue, cursor_at}
 use Rattle.session.proofs.Lists.{All-under}
 use Rattle.session.proofs.Fronts.{Ascends, up_to_twice}
-
--- no variable stands up to 0
-pub none_assigned : (trues : List ℕ) → AreAssigned trues 0
-none_assigned trues lit is low free = let some = is.not_zero in omega (arith, low, some)
 
 -- What cursors may pass stays so where more literals are true.
 abbrev pub Stays : (List ℕ → Cursor → Type 0) → Type 0
 Stays Passes = (trues more : List ℕ) (cursor : Cursor)
     → ((x : ℕ) → Contains trues x → Contains more x) → Passes trues cursor → Passes more cursor
-
-pub assigned_stays : Stays PassesAssigned
-assigned_stays trues more cursor grows assigned lit lit_is low free = assigned lit lit_is low (record {
-  not_true = λ holds. free.not_true (record { stands = grows lit holds.stands });
-  not_false = λ fails. free.not_false (record { stands = grows (opposite lit) fails.stands });
-})
 
 pub true_stays : (cube : List ℕ) → Stays (PassesTrue cube)
 true_stays cube trues more cursor grows all = All-under (Contains trues) (Contains more)
@@ -85,7 +73,7 @@ cursors_opened Passes old new entry now cursors opened stays low size is depth_i
 }
   where
     none : Cursor
-    none = record { literals = 0; variables = 0 }
+    none = record { literals = 0 }
 
     was : (level : ℕ) → level < new.depth → (level < old.depth) ⊎ (old.depth ≤ level)
         → Passes (lits_of (up_to level old.entries)) (cursor_at opened level)
@@ -118,7 +106,7 @@ cursors_back Passes old new level now then cursors left up lt entries_are depth_
       ∙ up_to_twice old.entries l level up (omega (arith, l_low))))
       (subst (Passes (lits_of (up_to l old.entries)))
       (sym (ap (λ xs. cursor_at xs l) left_is
-      ∙ get_or-take level cursors l (record { literals = 0; variables = 0 }) l_low))
+      ∙ get_or-take level cursors l (record { literals = 0 }) l_low))
       (are.below l (omega (arith, l_low, lt))));
 }
 
@@ -140,27 +128,3 @@ cursors_at_zero Passes trail now cursors zero present = record {
   present = present;
   below = λ level lt. absurd (omega (arith, lt, zero));
 }
-
--- up to the cursor all variables are assigned, and behind it up to the next free one
-pub assigned_below : (trues : List ℕ) (cursor vars first next : ℕ) → AreAssigned trues cursor
-    → first ≤ min cursor vars + 1
-    → ((lit : ℕ) → IsLit lit → first ≤ variable lit → variable lit < next → IsUnassigned trues lit
-    → ⊥) → AreAssigned trues (next - 1)
-assigned_below trues cursor vars first next low begin between lit is within free = at
-    (cases_lt cursor (variable lit))
-  where
-    at : (cursor < variable lit) ⊎ (variable lit ≤ cursor) → ⊥
-    at (inl above) = let some = is.not_zero in between lit is (omega (arith, above, begin))
-        (omega (arith, within, some)) free
-    at (inr below) = low lit is below free
-
-pub assigned_all : (trues : List ℕ) (cursor vars first : ℕ) → AreAssigned trues cursor
-    → first ≤ min cursor vars + 1
-    → ((lit : ℕ) → IsLit lit → first ≤ variable lit → variable lit ≤ vars → IsUnassigned trues lit
-    → ⊥) → AreAssigned trues vars
-assigned_all trues cursor vars first low begin between lit is within free = at
-    (cases_lt cursor (variable lit))
-  where
-    at : (cursor < variable lit) ⊎ (variable lit ≤ cursor) → ⊥
-    at (inl above) = between lit is (omega (arith, above, begin)) within free
-    at (inr below) = low lit is below free

@@ -19,9 +19,8 @@ use Rattle.session.specs.Searching.{IsSearching, IsRoomy, AreAllNamed, table_of}
 use Rattle.session.proofs.Fronts.{level_at}
 use Rattle.session.proofs.OnTrails.{decided_on_trail}
 use Rattle.session.specs.declared.search.Cursor.{Cursor}
-use Rattle.session.specs.Cursors.{PassesAssigned}
 use Rattle.session.specs.Watched.{IsSettled}
-use Rattle.session.proofs.Cursor.{assigned_stays, cursors_opened}
+use Rattle.session.proofs.Orders.{order_more}
 use Rattle.session.proofs.Watching.{watched_as, watched_decided}
 use Rattle.session.proofs.Learnings.{named_push}
 use Rattle.session.proofs.Choices.{same_variable}
@@ -60,7 +59,8 @@ search_decided s trail cursors lit kept is complete all entries_are depth_is var
   watched = watched_as refl refl entries_are depth_is looked_is
       (watched_decided s.store.clauses s.store.fresh s.trail.entries s.trail.depth s.trail.looked entry settled.all_looked settled.nothing_new refl kept.watched);
   levels = omega (arith, ap length opened, length_push s.cursors.items s.cursor, kept.levels, depth_is);
-  cursors = cursors_opened PassesAssigned s.trail trail entry s.cursor s.cursors.items cursors.items assigned_stays kept.trail.below kept.levels entries_are depth_is opened kept.cursors;
+  order = order_more s.greatest s.trail trail (entry ∷ []) s.order entries_are
+      (omega (arith, vars_are)) kept.order;
   all_named = λ deep place lt bottom. all_at place lt bottom
       (cases_lt place (length s.trail.entries));
 }

@@ -15,7 +15,10 @@ use Rattle.session.specs.declared.rounds.Round.TheVariants.{Model, Refuted, Paus
 use Rattle.session.specs.declared.rounds.Descent.{Descent}
 use Rattle.session.specs.declared.rounds.Descent.TheVariants.{Conflict, Ended}
 use Rattle.session.specs.Fronts.{IsFront}
-use Rattle.session.specs.Cursors.{PassesAssigned, PassesTrue}
+use Rattle.session.specs.Cursors.{PassesTrue}
+use Rattle.session.specs.declared.order.Order.{Order}
+use Rattle.session.specs.declared.restarts.Restarts.{Restarts}
+use Rattle.session.specs.Orders.{IsOrderOf}
 use Rattle.session.specs.Cubes.{IsOnCube}
 use Rattle.session.specs.Solver.{Solver, clauses_of, inputs_of}
 use Rattle.session.specs.Searching.{IsSearching, HasSameVariables, HasStepsMore, HasUnitsMore}
@@ -151,11 +154,11 @@ round_decided s new cube vars round parts same kept on_cube =
       vars = same;
     }) on_cube
 
--- the cursor moves, and cursors may find another place in memory
-pub search_moved : (s : Search) (cursor : Cursor) (cursors : Vec Cursor Global) → IsSearching s
-    → cursors.items ≡ s.cursors.items → PassesAssigned (lits_of s.trail.entries) cursor
-    → IsSearching (record s { cursor = cursor; cursors = cursors })
-search_moved s cursor cursors kept same assigned = record {
+-- the cursor and the order move, and cursors may find another place in memory
+pub search_moved : (s : Search) (cursor : Cursor) (cursors : Vec Cursor Global) (order : Order)
+    → IsSearching s → cursors.items ≡ s.cursors.items → IsOrderOf s.greatest s.trail order
+    → IsSearching (record s { cursor = cursor; cursors = cursors; order = order })
+search_moved s cursor cursors order kept same ordered = record {
   stock = kept.stock;
   room = kept.room;
   counted = kept.counted;
@@ -165,15 +168,15 @@ search_moved s cursor cursors kept same assigned = record {
   all_named = kept.all_named;
   watched = kept.watched;
   levels = ap length same ∙ kept.levels;
-  cursors = cursors_moved PassesAssigned s.trail s.cursor cursor s.cursors.items cursors.items same assigned kept.cursors;
+  order = ordered;
 }
 
-pub round_moved : (s : Search) (cursor : Cursor) (cube : List ℕ) (vars : ℕ) → IsInRound s cube vars
-    → PassesTrue cube (lits_of s.trail.entries) cursor
-    → PassesAssigned (lits_of s.trail.entries) cursor
-    → IsInRound (record s { cursor = cursor }) cube vars
-round_moved s cursor cube vars round passed assigned = record {
-  kept = search_moved s cursor s.cursors round.kept refl assigned;
+pub round_moved : (s : Search) (cursor : Cursor) (order : Order) (cube : List ℕ) (vars : ℕ)
+    → IsInRound s cube vars → PassesTrue cube (lits_of s.trail.entries) cursor
+    → IsOrderOf s.greatest s.trail order
+    → IsInRound (record s { cursor = cursor; order = order }) cube vars
+round_moved s cursor order cube vars round passed ordered = record {
+  kept = search_moved s cursor s.cursors order round.kept refl ordered;
   on_cube = record {
     decisions = round.on_cube.decisions;
     cursors = cursors_moved (PassesTrue cube) s.trail s.cursor cursor s.cursors.items s.cursors.items refl passed round.on_cube.cursors;
@@ -181,17 +184,38 @@ round_moved s cursor cube vars round passed assigned = record {
   variables = round.variables;
 }
 
--- the cursor moves, and a decision may come
-pub round_chosen : (s new : Search) (cursor : Cursor) (cube : List ℕ) (vars : ℕ)
+-- the cursor and the order move, and a decision may come
+pub round_chosen : (s new : Search) (cursor : Cursor) (order : Order) (cube : List ℕ) (vars : ℕ)
     → IsInRound s cube vars → PassesTrue cube (lits_of s.trail.entries) cursor
-    → PassesAssigned (lits_of s.trail.entries) cursor
-    → new ≡ record s { cursor = cursor; trail = new.trail; cursors = new.cursors }
-    → new.trail.vars ≡ s.trail.vars → IsSearching new
-    → (IsOnCube cube (record s { cursor = cursor }) → IsOnCube cube new) → IsInRound new cube vars
-round_chosen s new cursor cube vars round passed assigned parts same kept on_cube =
-    let moved = round_moved s cursor cube vars round passed assigned in
-    round_decided (record s { cursor = cursor }) new cube vars moved parts same kept
+    → IsOrderOf s.greatest s.trail order
+    → new ≡ record s {
+      cursor = cursor;
+      trail = new.trail;
+      cursors = new.cursors;
+      order = order;
+    } → new.trail.vars ≡ s.trail.vars → IsSearching new
+    → (IsOnCube cube (record s { cursor = cursor; order = order }) → IsOnCube cube new)
+    → IsInRound new cube vars
+round_chosen s new cursor order cube vars round passed ordered parts same kept on_cube =
+    let moved = round_moved s cursor order cube vars round passed ordered in
+    round_decided (record s { cursor = cursor; order = order }) new cube vars moved parts same kept
     (on_cube moved.on_cube)
+
+-- restarts are counted
+pub search_counted : (s : Search) (restarts : Restarts) → IsSearching s
+    → IsSearching (record s { restarts = restarts })
+search_counted s restarts kept = record {
+  stock = kept.stock;
+  room = kept.room;
+  counted = kept.counted;
+  trail = kept.trail;
+  on = kept.on;
+  named = kept.named;
+  all_named = kept.all_named;
+  watched = kept.watched;
+  levels = kept.levels;
+  order = kept.order;
+}
 
 -- a step came behind those that were there
 pub keeps_stepped : (s new : Search) → new ≡ record s { steps = new.steps }

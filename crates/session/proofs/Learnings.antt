@@ -50,8 +50,10 @@ use Rattle.propagate.specs.Pairing.{IsReady}
 use Rattle.analyze.specs.Graph.{IsOfLevel}
 use Rattle.session.proofs.Searches.{name_of_clause, counted_beside}
 use Rattle.session.specs.declared.search.Cursor.{Cursor}
-use Rattle.session.specs.Cursors.{PassesAssigned, cursor_at}
-use Rattle.session.proofs.Cursor.{assigned_stays, cursors_more, cursors_back}
+use Rattle.session.specs.Cursors.{cursor_at}
+use Rattle.session.specs.declared.order.Order.{Order}
+use Rattle.session.specs.Orders.{IsOrderOf}
+use Rattle.session.proofs.Orders.{order_more}
 use Rattle.session.proofs.Steps.{pushed_steps}
 use Rattle.session.proofs.Learning.{contains_none}
 
@@ -75,13 +77,19 @@ false_proper trail clause is all both =
 
 -- a jump back
 pub search_back : (s : Search) (trail : TrailView) (level : ℕ) (cursor : Cursor)
-    (cursors : Vec Cursor Global) → IsSearching s → IsTrail trail → level < s.trail.depth
+    (cursors : Vec Cursor Global) (order : Order) → IsSearching s → IsTrail trail
+    → level < s.trail.depth
     → trail.entries ≡ up_to level s.trail.entries → trail.depth ≡ level → trail.vars ≡ s.trail.vars
     → trail.looked ≡ min s.trail.looked (length trail.entries)
     → cursor ≡ cursor_at s.cursors.items level → cursors.items ≡ take level s.cursors.items
-    → (0 < level → s.store.fresh ≡ [])
-    → IsSearching (record s { trail = trail; cursor = cursor; cursors = cursors })
-search_back s trail level cursor cursors kept is deep entries_are depth_is vars_are looked_is cursor_is cursors_are none =
+    → (0 < level → s.store.fresh ≡ []) → IsOrderOf s.greatest trail order
+    → IsSearching (record s {
+      trail = trail;
+      cursor = cursor;
+      cursors = cursors;
+      order = order;
+    })
+search_back s trail level cursor cursors order kept is deep entries_are depth_is vars_are looked_is cursor_is cursors_are none ordered =
     let (n, front) = front_of s.trail.entries level kept.trail.ascending in
     let taken : trail.entries ≡ take n s.trail.entries = entries_are
     ∙ up_to_is s.trail.entries level n front in
@@ -118,7 +126,7 @@ search_back s trail level cursor cursors kept is deep entries_are depth_is vars_
           (omega (arith, deep)) none kept.watched);
       levels = ap length cursors_are
           ∙ length-take-le level s.cursors.items (omega (arith, deep, kept.levels)) ∙ sym depth_is;
-      cursors = cursors_back PassesAssigned s.trail trail level s.cursor cursor s.cursors.items cursors.items kept.trail.ascending deep entries_are depth_is cursor_is cursors_are kept.cursors;
+      order = ordered;
       all_named = λ _ place lt zero. (let place_in : place < n = omega (arith, lt, size) in
           kept.all_named (omega (arith, deep)) place (omega (arith, place_in, front.within))
           (ap (λ (e : Entry). e.level) (sym (same place place_in)) ∙ zero));
@@ -227,7 +235,8 @@ search_taught s store trail learnt step number id lit kept added fresh_is store_
   watched = watched_as added fresh_is entries_are depth_is looked_is
       (watched_taught s.store.clauses s.store.fresh s.trail.entries s.trail.depth s.trail.looked clause entry kept.trail.looked_at refl ready others.stands none kept.watched);
   levels = kept.levels ∙ sym depth_is;
-  cursors = cursors_more PassesAssigned s.trail trail (entry ∷ []) s.cursor s.cursors.items assigned_stays entries_are depth_is kept.cursors;
+  order = order_more s.greatest s.trail trail (entry ∷ []) s.order entries_are
+      (omega (arith, vars_are)) kept.order;
   all_named = λ deep place lt zero. all_at deep place lt zero
       (cases_lt place (length s.trail.entries));
 }
@@ -297,7 +306,7 @@ search_unlisted s learnt kept same = record {
   trail = kept.trail;
   watched = kept.watched;
   levels = kept.levels;
-  cursors = kept.cursors;
+  order = kept.order;
   all_named = kept.all_named;
 }
 
@@ -532,7 +541,12 @@ pub lesson_learnt : (old p b h : Search) (l : Lesson) (number : ℕ) → IsSearc
     → IsLesson old l → IsLitSet l.clause
     → p ≡ record old { steps = p.steps } → p.steps.items ≡ old.steps.items ++ l.step ∷ []
     → number ≡ length p.steps.items
-    → b ≡ record p { trail = b.trail; cursor = b.cursor; cursors = b.cursors }
+    → b ≡ record p {
+      trail = b.trail;
+      cursor = b.cursor;
+      cursors = b.cursors;
+      order = b.order;
+    }
     → h ≡ record b { store = h.store; trail = h.trail; learnt = h.learnt }
     → h.store.clauses ≡ b.store.clauses ++ record {
       lits = l.clause;
@@ -546,10 +560,20 @@ lesson_learnt old p b h l number kept lesson set stepped pushed last back held a
     (last ∙ ap (λ (x : Search). length x.steps.items) (sym back)
     ∙ ap (λ (x : Search). length x.steps.items) (sym held))
     (listed ∙ ap (λ (x : Search). x.learnt.items ++ number ∷ [])
-    (back ∙ ap (λ (x : Search). record x { trail = b.trail; cursor = b.cursor; cursors = b.cursors }) stepped))
+    (back ∙ ap (λ (x : Search). record x {
+      trail = b.trail;
+      cursor = b.cursor;
+      cursors = b.cursors;
+      order = b.order;
+    }) stepped))
     (added ∙ ap (λ (x : Search). x.store.clauses
     ++ record { lits = l.clause; tag = l.step.tag; origin = Own number } ∷ [])
-    (back ∙ ap (λ (x : Search). record x { trail = b.trail; cursor = b.cursor; cursors = b.cursors }) stepped))
+    (back ∙ ap (λ (x : Search). record x {
+      trail = b.trail;
+      cursor = b.cursor;
+      cursors = b.cursors;
+      order = b.order;
+    }) stepped))
     (ap (λ (x : Search). x.bound) held ∙ ap (λ (x : Search). x.bound) back
     ∙ ap (λ (x : Search). x.bound) stepped)
     (ap packets_of held ∙ ap packets_of back ∙ ap packets_of stepped)

@@ -14,6 +14,7 @@ pub mod UnitSteps
 pub mod Reasons
 pub mod Searches
 pub mod Choices
+pub mod Orders
 pub mod Assignments
 pub mod Learnings
 pub mod Refuted

@@ -148,7 +148,7 @@ search_restored s store kept clauses vars watched = record {
   trail = kept.trail;
   watched = watched;
   levels = kept.levels;
-  cursors = kept.cursors;
+  order = kept.order;
   all_named = kept.all_named;
 }
 
@@ -189,7 +189,7 @@ search_raised s bound kept le = record {
   trail = kept.trail;
   watched = kept.watched;
   levels = kept.levels;
-  cursors = kept.cursors;
+  order = kept.order;
   all_named = kept.all_named;
 }
 
@@ -240,10 +240,10 @@ pub record IsLoading (start now : Search) (clauses rest : List (List ℕ)) (job 
       ++ tagged job clauses
   pub bound : now.bound ≤ job
   pub few : now.inputs + length rest ≤ 16777216
-  pub greatest : greatest_of_all rest ≤ start.trail.vars
+  pub greatest : greatest_of_all rest ≤ start.order.vars
 
 pub loading_starts : (s : Search) (clauses : List (List ℕ)) (job : ℕ) → s.bound ≤ job
-    → s.inputs + length clauses ≤ 16777216 → greatest_of_all clauses ≤ s.trail.vars
+    → s.inputs + length clauses ≤ 16777216 → greatest_of_all clauses ≤ s.order.vars
     → IsLoading s s clauses clauses job
 loading_starts s clauses job low few reserved = record {
   only = no_inputs_came s;
@@ -273,13 +273,13 @@ loading_goes_on start mid new clauses rest left clause job loading split only mo
   greatest = omega (arith, loading.greatest, ap greatest_of_all split);
 }
 
--- the next clause is over reserved variables, and there may be one more
+-- the next clause is over variables of the order, and there may be one more
 pub loading_next : (start mid : Search) (clauses rest left : List (List ℕ)) (clause : List ℕ)
     (job : ℕ) → IsLoading start mid clauses rest job → rest ≡ clause ∷ left
-    → (greatest_of clause ≤ mid.trail.vars) × (mid.inputs < 16777216)
+    → (greatest_of clause ≤ mid.order.vars) × (mid.inputs < 16777216)
     × (mid.trail.depth ≡ start.trail.depth)
 loading_next start mid clauses rest left clause job loading split =
-    let vars = ap (λ (s : Search). s.trail.vars) loading.only.parts in (
+    let vars = ap (λ (s : Search). s.order.vars) loading.only.parts in (
       omega (arith, loading.greatest, ap greatest_of_all split, vars),
       omega
           (arith, loading.few, ap length split),

@@ -65,13 +65,13 @@ some_true trues (x ∷ lits) assigned open_yet = at (member trues x)
         refute rest (inr neither) = assigned x (Contains-here x lits)
             (record { not_true = λ h. fails h.stands; not_false = λ h. neither h.stands })
 
-pub model_of : (s : Search) (cube : List ℕ) (vars : ℕ) (values : List Bool) → IsSearching s
-    → IsLitSet cube → vars ≡ max s.greatest (greatest_of cube)
+pub model_of : (s : Search) (cube : List ℕ) (vars ordered : ℕ) (values : List Bool) → IsSearching s
+    → IsLitSet cube → vars ≡ max s.greatest (greatest_of cube) → s.greatest ≤ ordered
     → IsComplete s.trail.entries s.trail.depth (lits_of_each s.store.clauses)
-    → IsWhole (lits_of s.trail.entries) cube vars
+    → IsWhole (lits_of s.trail.entries) cube ordered
     → IsAssignmentOf (lits_of s.trail.entries) vars values
     → IsModelOf (clauses_of (inputs_of s.store.clauses)) cube values
-model_of s cube vars values kept set vars_are complete whole given = record {
+model_of s cube vars ordered values kept set vars_are has_inputs complete whole given = record {
   size = given.size ∙ vars_are ∙ ap (λ n. max n (greatest_of cube)) kept.counted.greatest_is;
   clauses_hold = all_from_members (clause_true values) (clauses_of (inputs_of s.store.clauses))
       (λ lits has. input_holds lits has);
@@ -97,19 +97,18 @@ model_of s cube vars values kept set vars_are complete whole given = record {
         let within = All-contains
         (λ (c : ArenaClause). AreWithin s.greatest c.lits) s.store.clauses clause kept.room.over has in
         let low : (lit : ℕ) → Contains clause.lits lit
-        → variable lit ≤ vars = λ lit lit_in. (let h = All-contains
-        (λ x. variable x ≤ s.greatest) clause.lits lit within lit_in in omega
-        (arith, h, vars_are)) in
+        → variable lit ≤ s.greatest = λ lit lit_in. All-contains
+        (λ x. variable x ≤ s.greatest) clause.lits lit within lit_in in
         let is_open = All-contains (IsOpenClause trues)
         (lits_of_each s.store.clauses) clause.lits all_open
         (Contains-map (λ (c : ArenaClause). c.lits) s.store.clauses clause has) in
         let (lit, lit_in, holds) = some_true trues clause.lits
         (λ lit lit_in. whole.assigned lit (All-contains IsLit clause.lits lit each lit_in)
-        (low lit lit_in)) is_open.not_false in
+        (let h = low lit lit_in in omega (arith, h, has_inputs))) is_open.not_false in
         any_from_member (lit_true values) (in_order clause.lits) lit
         ((in_order-has clause.lits lit).1 lit_in)
         (given.agrees lit (All-contains IsLit clause.lits lit each lit_in)
-        (low lit lit_in) holds)
+        (let h = low lit lit_in in omega (arith, h, vars_are)) holds)
 
     input_holds : (lits : List ℕ) → Contains (clauses_of (inputs_of s.store.clauses)) lits
         → IsTrue (clause_true values lits)

@@ -7,6 +7,7 @@ use Rattle.trail_core.specs.UnderTrail.{HasGrown}
 use Rattle.propagate.specs.Store.{StoreView}
 use Rattle.session.specs.declared.search.Cursor.{Cursor}
 use Rattle.session.specs.declared.search.Search.{Search}
+use Rattle.session.specs.declared.order.Order.{Order}
 use Rattle.session.specs.OnTrail.{IsForCube, IsChoice}
 use Rattle.session.specs.Cursors.{PassesTrue, cursor_at}
 use Rattle.session.specs.Cubes.{IsOnCube, KeepsCubes}
@@ -61,11 +62,16 @@ on_cube_stepped cube s new parts on_cube = subst (IsOnCube cube) (sym parts)
 
 -- a jump back
 pub on_cube_back : (s : Search) (trail : TrailView) (level : ℕ) (cursor : Cursor)
-    (cursors : Vec Cursor Global) → IsSearching s → level < s.trail.depth
+    (cursors : Vec Cursor Global) (order : Order) → IsSearching s → level < s.trail.depth
     → trail.entries ≡ up_to level s.trail.entries → trail.depth ≡ level
     → cursor ≡ cursor_at s.cursors.items level → cursors.items ≡ take level s.cursors.items
-    → KeepsCubes s (record s { trail = trail; cursor = cursor; cursors = cursors })
-on_cube_back s trail level cursor cursors kept lt entries_are depth_is cursor_is cursors_are cube on_cube = record {
+    → KeepsCubes s (record s {
+      trail = trail;
+      cursor = cursor;
+      cursors = cursors;
+      order = order;
+    })
+on_cube_back s trail level cursor cursors order kept lt entries_are depth_is cursor_is cursors_are cube on_cube = record {
   decisions = subst (IsForCube cube) (sym entries_are)
       (cube_back cube s.trail.entries level kept.trail.ascending on_cube.decisions);
   cursors = cursors_back (PassesTrue cube) s.trail trail level s.cursor cursor s.cursors.items cursors.items kept.trail.ascending lt entries_are depth_is cursor_is cursors_are on_cube.cursors;

@@ -21,7 +21,7 @@ use Rattle.session.specs.declared.search.Search.{Search}
 use Rattle.session.specs.Solver.{inputs_of, held_of, packet_at, last_step_of, named_by}
 use Rattle.session.specs.Solver.{known_clause, clauses_of, is_input}
 use Rattle.session.specs.Stock.{IsStocked}
-use Rattle.session.specs.OnTrail.{AreAssigned, IsOnTrail}
+use Rattle.session.specs.OnTrail.{IsOnTrail}
 use Rattle.session.specs.Units.{IsNamed}
 use Rattle.session.specs.Searching.{IsSearching, IsCounted, IsHeldStep, packets_of, table_of}
 use Rattle.trace_core.specs.declared.derivation.Step.{Step}
@@ -30,8 +30,8 @@ use Rattle.sat_base.proofs.InOrder.{in_order-itself}
 use Rattle.session.proofs.Stocked.{stock_input, named_with_input}
 use Rattle.session.proofs.Reasons.{named_stays}
 use Rattle.session.proofs.OnTrails.{more_on_trail}
-use Rattle.session.specs.Cursors.{PassesAssigned}
-use Rattle.session.proofs.Cursor.{none_assigned, assigned_stays, cursors_more, cursors_at_zero}
+use Rattle.session.specs.Orders.{IsOrder, OffersFree}
+use Rattle.session.proofs.Orders.{order_more}
 use Rattle.session.proofs.Watching.{watched_as, watched_added, watched_none}
 use Rattle.session.proofs.Searches.{learnt_beside}
 use Rattle.session.proofs.UpTo.{below_greatest}
@@ -114,8 +114,8 @@ search_reserved s store scratch units tags trail kept is clauses fresh entries d
   trail = is;
   watched = watched_as clauses fresh entries depth looked kept.watched;
   levels = kept.levels ∙ sym depth;
-  cursors = cursors_more PassesAssigned s.trail trail [] s.cursor s.cursors.items assigned_stays
-      (entries ∙ sym (append-nil s.trail.entries)) depth kept.cursors;
+  order = order_more s.greatest s.trail trail [] s.order
+      (entries ∙ sym (append-nil s.trail.entries)) more kept.order;
   all_named = λ deep place lt bottom. kept.all_named (omega (arith, deep, depth)) place
       (omega (arith, lt, ap length entries)) (ap (λ (es : List Entry). (entry_at es place).level)
       (sym entries) ∙ bottom);
@@ -156,7 +156,7 @@ inputs_more clauses clauses' clause tag number set added =
 pub search_input : (s : Search) (clause : List ℕ) (store : StoreView)
     (tag number greatest most : ℕ) → IsSearching s → s.trail.depth ≡ 0 → IsLitSet clause
     → s.bound ≤ tag → number ≡ s.inputs + 1 → greatest ≡ greatest_of clause
-    → most ≡ max s.greatest greatest → greatest ≤ s.trail.vars
+    → most ≡ max s.greatest greatest → greatest ≤ s.order.vars
     → store.clauses ≡ s.store.clauses ++ record {
       lits = clause;
       tag = tag;
@@ -180,7 +180,7 @@ search_input s clause store tag number greatest most kept zero set le last great
         (All-from_members (λ lit. variable lit ≤ most) clause
         (λ lit has. (let h = below_greatest clause lit has in omega
         (arith, h, most_is, greatest_is)))));
-    reserved = omega (arith, kept.room.reserved, within, most_is);
+    reserved = omega (arith, kept.room.reserved, within, most_is, kept.order.reserved);
     in_store = omega (arith, kept.room.in_store, vars_are);
     in_scratch = kept.room.in_scratch;
     in_units = kept.room.in_units;
@@ -211,7 +211,12 @@ search_input s clause store tag number greatest most kept zero set le last great
   watched = watched_as added fresh_is refl refl refl
       (watched_added s.store.clauses s.store.fresh s.trail.entries s.trail.depth s.trail.looked input zero kept.watched);
   levels = kept.levels;
-  cursors = kept.cursors;
+  order = record {
+    is = kept.order.is;
+    has_inputs = omega (arith, kept.order.has_inputs, within, most_is);
+    reserved = kept.order.reserved;
+    offers = kept.order.offers;
+  };
   all_named = λ deep. absurd (omega (arith, deep, zero));
 }
   where
@@ -247,9 +252,9 @@ none_known packets place number one none is = at (place == 0)
 -- a search without inputs
 pub new_search : (s : Search) → s.store.clauses ≡ [] → s.store.fresh ≡ []
     → s.trail.entries ≡ [] → s.trail.depth ≡ 0 → s.trail.looked ≡ 0 → s.trail.vars ≡ 0 → s.packets.items ≡ [] → s.steps.items ≡ [] → s.learnt.items ≡ []
-    → s.named ≡ 0 → s.cursor.variables ≡ 0 → s.cursors.items ≡ [] → s.greatest ≡ 0
-    → s.inputs ≡ 0 → IsSearching s
-new_search s clauses fresh entries depth looked vars packets steps learnt named cursor cursors greatest inputs = record {
+    → s.named ≡ 0 → s.cursors.items ≡ [] → s.greatest ≡ 0 → s.inputs ≡ 0 → IsOrder s.order
+    → s.order.vars ≡ 0 → OffersFree s.trail.entries s.order.ranking → IsSearching s
+new_search s clauses fresh entries depth looked vars packets steps learnt named cursors greatest inputs order ordered offers = record {
   stock = subst (λ cs. IsStocked cs (packets_of s) s.steps.items s.bound) (sym clauses) (subst (λ xs. IsStocked [] (packets_of s) xs s.bound) (sym steps) (record {
     lits = λ i d lt. absurd (omega (arith, lt));
     named = λ i d lt. absurd (omega (arith, lt));
@@ -305,9 +310,12 @@ new_search s clauses fresh entries depth looked vars packets steps learnt named 
   watched = watched_as clauses fresh refl refl refl (watched_none s.trail.entries s.trail.depth s.trail.looked depth
       (omega (arith, looked, ap length entries)));
   levels = omega (arith, ap length cursors, depth);
-  cursors = cursors_at_zero PassesAssigned s.trail s.cursor s.cursors.items depth
-      (subst (AreAssigned (lits_of s.trail.entries)) (sym cursor)
-      (none_assigned (lits_of s.trail.entries)));
+  order = record {
+    is = order;
+    has_inputs = omega (arith, greatest);
+    reserved = omega (arith, ordered);
+    offers = offers;
+  };
   all_named = λ deep. absurd (omega (arith, deep, depth));
 }
   where

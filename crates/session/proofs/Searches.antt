@@ -77,7 +77,7 @@ with_steps search steps stock grows numbered s = record {
   trail = s.trail;
   watched = s.watched;
   levels = s.levels;
-  cursors = s.cursors;
+  order = s.order;
   all_named = s.all_named;
 }
 
@@ -208,7 +208,7 @@ search_named s units tags name tag lit kept lt zero is one units_are tags_are = 
   trail = kept.trail;
   watched = kept.watched;
   levels = kept.levels;
-  cursors = kept.cursors;
+  order = kept.order;
   all_named = λ deep. absurd (omega (arith, deep, zero));
 }
   where

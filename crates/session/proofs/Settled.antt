@@ -20,9 +20,8 @@ use Rattle.session.specs.Searching.{IsSearching, IsHeldStep, packets_of, AreAllN
 use Rattle.session.specs.Fronts.{IsFront}
 use Rattle.session.proofs.SameClauses.{AreOneByOne, one_by_one, inputs_same, held_same, stock_same}
 use Rattle.session.proofs.OnTrails.{propagated_on_trail}
-use Rattle.session.specs.Cursors.{PassesAssigned}
 use Rattle.propagate.specs.Pairing.{IsPaired, AreReady, ArePendingAt}
-use Rattle.session.proofs.Cursor.{assigned_stays, cursors_grown}
+use Rattle.session.proofs.Orders.{order_grown}
 use Rattle.session.proofs.Watching.{watched_propagated}
 use Rattle.session.proofs.Fronts.{level_at, entry_in}
 
@@ -82,7 +81,7 @@ search_propagated s store trail kept same store_vars grown founded depth_is vars
   watched = watched_propagated s.store.clauses store.clauses s.store.fresh store.fresh s.trail.entries trail.entries
       (lits_of_each store.clauses) s.trail.depth trail.depth s.trail.looked trail.looked same grown depth_is paired ready pending still kept.watched;
   levels = kept.levels ∙ sym depth_is;
-  cursors = cursors_grown PassesAssigned (lits_of_each store.clauses) s.trail trail s.cursor s.cursors.items assigned_stays grown depth_is kept.cursors;
+  order = order_grown s.greatest (lits_of_each store.clauses) s.trail trail s.order grown vars_are kept.order;
   all_named = λ deep place lt zero. all_at deep place lt zero
       (cases_lt place (length s.trail.entries));
 }

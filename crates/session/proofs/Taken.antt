@@ -302,7 +302,7 @@ search_took s new place packet one kept bottom parts more free takable ascends a
   watched = watched_as added fresh refl refl refl
       (watched_added s.store.clauses s.store.fresh s.trail.entries s.trail.depth s.trail.looked shared bottom kept.watched);
   levels = kept.levels;
-  cursors = kept.cursors;
+  order = kept.order;
   all_named = kept.all_named;
 })
   where
@@ -439,7 +439,7 @@ search_unplaced s new kept parts store packets = subst (λ (x : Search). IsSearc
   trail = kept.trail;
   watched = kept.watched;
   levels = kept.levels;
-  cursors = kept.cursors;
+  order = kept.order;
   all_named = kept.all_named;
 })
 
@@ -474,7 +474,7 @@ search_knows s new place packet kept parts more free is_held = subst (λ (x : Se
   trail = kept.trail;
   watched = kept.watched;
   levels = kept.levels;
-  cursors = kept.cursors;
+  order = kept.order;
   all_named = kept.all_named;
 })
   where

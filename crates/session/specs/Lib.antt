@@ -3,6 +3,7 @@ pub mod Fronts
 pub mod Stock
 pub mod OnTrail
 pub mod Cursors
+pub mod Orders
 pub mod Cubes
 pub mod Watched
 pub mod Units

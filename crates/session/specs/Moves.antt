@@ -21,7 +21,8 @@ pub record IsWhole (trues cube : List ℕ) (vars : ℕ) : Type 0 where
   pub holds : IsCubeTrue trues cube
   pub assigned : AreAssigned trues vars
 
-abbrev pub IsMove : List ℕ → List ℕ → ℕ → Move → Type 0
-IsMove trues cube vars (Decide lit) = IsDecidable trues cube vars lit
-IsMove trues cube vars (Blame lit) = IsToBlame trues cube lit
-IsMove trues cube vars Stop = IsWhole trues cube vars
+-- where so many variables are in the order, and so many are reserved
+abbrev pub IsMove : List ℕ → List ℕ → ℕ → ℕ → Move → Type 0
+IsMove trues cube ordered reserved (Decide lit) = IsDecidable trues cube reserved lit
+IsMove trues cube ordered reserved (Blame lit) = IsToBlame trues cube lit
+IsMove trues cube ordered reserved Stop = IsWhole trues cube ordered

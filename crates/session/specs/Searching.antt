@@ -14,7 +14,7 @@ use Rattle.session.specs.declared.search.Search.{Search}
 use Rattle.session.specs.Solver.{Solver, inputs_of, held_of, clauses_of, named_by, IsStep}
 use Rattle.session.specs.Stock.{IsStocked}
 use Rattle.session.specs.OnTrail.{IsOnTrail}
-use Rattle.session.specs.Cursors.{AreCursors, PassesAssigned}
+use Rattle.session.specs.Orders.{IsOrderOf}
 use Rattle.session.specs.Watched.{IsWatched}
 use Rattle.session.specs.Units.{IsNamed}
 
@@ -74,7 +74,7 @@ pub record IsSearching (search : Search) : Type 0 where
   pub all_named : 0 < search.trail.depth → (place : ℕ) → place < length search.trail.entries
       → (entry_at search.trail.entries place).level ≡ 0 → place < search.named
   pub levels : length search.cursors.items ≡ search.trail.depth
-  pub cursors : AreCursors PassesAssigned search.trail search.cursor search.cursors.items
+  pub order : IsOrderOf search.greatest search.trail search.order
 
 -- every unit clause of level 0 has its name
 pub record AreAllNamed (search : Search) : Type 0 where

@@ -18,21 +18,23 @@ ghost use Rattle.session.specs.Solving.{Keeps, LearnsOne};
 use crate::levels::backjump;
 use crate::search::{Search, push_step};
 use analyze::learn;
-use sat_base::{Clause, Lit, Ref};
+use sat_base::{Clause, Items, Lit, Ref};
 use std::alloc::AllocError;
 use trace_core::Step;
 use trail_core::Trail;
 
-/// What a conflict teaches: a clause, the level at which it is unit, and the step that derives it.
+/// What a conflict teaches: a clause, the level at which it is unit, the step that derives it, and
+/// the variables that the clauses it came from have above level 0.
 #[derive(Debug, Drop)]
 pub(crate) struct Lesson {
     clause: Clause,
     back: u32,
     step: Step,
+    met: Items<u32>,
 }
 
-/// Learns a clause from a clause that is false above level 0, adds it to the store, goes back to
-/// where it is unit, and makes its literal true.
+/// Learns a clause from a clause that is false above level 0, ranks the variables higher that it
+/// met, adds the clause to the store, goes back to where it is unit, and makes its literal true.
 pub(crate) fn learn_and_backjump(search: &mut Search, conflict: usize) -> Result<(), AllocError>
     requires kept { IsSearching search.old }
     requires deep { 0 < search.old.trail.depth }
@@ -43,7 +45,13 @@ pub(crate) fn learn_and_backjump(search: &mut Search, conflict: usize) -> Result
     ensures cubes { KeepsCubes search.old search.new }
     ensures ok { OnOk result (LearnsOne (solver_of search.old) (solver_of search.new)) }
 {
-    let Lesson { clause, back, step } = analyze_conflict(search, conflict)?;
+    let Lesson {
+        clause,
+        back,
+        step,
+        met,
+    } = analyze_conflict(search, conflict)?;
+    search.order.bump_all(met.items());
     let tag = step.tag;
     let number = push_step(search, step)?;
     // Back first: where the clause finds no room, the trail stands as it should all the same.
@@ -74,6 +82,7 @@ fn analyze_conflict(search: &mut Search, conflict: usize) -> Result<Lesson, Allo
         clause: learnt.clause,
         back: learnt.back,
         step: learnt.step,
+        met: learnt.met,
     })
 }
 

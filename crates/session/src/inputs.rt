@@ -21,8 +21,9 @@ pub(crate) fn load(search: &mut Search, cube: &Cube, clauses: &[Clause]) -> Resu
     ensures ok { OnOk result (solver_of search.new ≡ loaded (solver_of search.old) clauses.now) }
     ensures err { OnErr result (solver_of search.new ≡ solver_of search.old) }
 {
-    let vars = greatest_in(clauses).max(greatest_variable(cube.lits()));
-    reserve(search, vars)?;
+    let vars = greatest_in(clauses);
+    reserve(search, vars.max(greatest_variable(cube.lits())))?;
+    enter(search, vars)?;
     let job = search.bound + 1;
     let before = search.store.arena().len();
     let (greatest, inputs, bound) = (search.greatest, search.inputs, search.bound);
@@ -41,13 +42,13 @@ pub(crate) fn load(search: &mut Search, cube: &Cube, clauses: &[Clause]) -> Resu
     }
 }
 
-// Adds inputs of this job, whose variables are reserved. After want of memory some of them may be
-// there.
+// Adds inputs of this job, whose variables are in the order. After want of memory some of them may
+// be there.
 fn push_clauses(search: &mut Search, clauses: &[Clause], job: u32) -> Result<(), AllocError>
     requires kept { IsSearching search.old }
     requires zero { search.old.trail.depth ≡ 0 }
     requires few { search.old.inputs + length clauses.now ≤ 16777216 }
-    requires reserved { greatest_of_all clauses.now ≤ search.old.trail.vars }
+    requires entered { greatest_of_all clauses.now ≤ search.old.order.vars }
     requires job { search.old.bound ≤ job }
     ensures kept { IsSearching search.new }
     ensures parts { HasInputsOnly search.old search.new }
@@ -59,12 +60,12 @@ fn push_clauses(search: &mut Search, clauses: &[Clause], job: u32) -> Result<(),
     Ok(())
 }
 
-// Adds an input of this job, whose variables are reserved.
+// Adds an input of this job, whose variables are in the order.
 fn push_clause(search: &mut Search, clause: &Clause, job: u32) -> Result<(), AllocError>
     requires kept { IsSearching search.old }
     requires zero { search.old.trail.depth ≡ 0 }
     requires few { search.old.inputs < 16777216 }
-    requires reserved { greatest_of clause.now ≤ search.old.trail.vars }
+    requires entered { greatest_of clause.now ≤ search.old.order.vars }
     requires job { search.old.bound ≤ job }
     ensures kept { IsSearching search.new }
     ensures parts { HasInputsOnly search.old search.new }
@@ -89,6 +90,7 @@ pub(crate) fn reserve(search: &mut Search, vars: u32) -> Result<(), AllocError>
     ensures numbers { (search.new.greatest ≡ search.old.greatest)
         × (search.new.inputs ≡ search.old.inputs) }
     ensures clauses { search.new.store.clauses ≡ search.old.store.clauses }
+    ensures order { search.new.order ≡ search.old.order }
     ensures ok { OnOk result (vars ≤ search.new.trail.vars) }
 {
     search.store.reserve(vars)?;
@@ -99,6 +101,18 @@ pub(crate) fn reserve(search: &mut Search, vars: u32) -> Result<(), AllocError>
     // Brings `IsTrail` of the trail with more variables.
     let _ = search.trail.depth();
     Ok(())
+}
+
+// Enters the variables 1 to `vars`, which are reserved, into the order of decisions.
+fn enter(search: &mut Search, vars: u32) -> Result<(), AllocError>
+    requires kept { IsSearching search.old }
+    requires reserved { vars ≤ search.old.trail.vars }
+    requires few { vars ≤ 8388607 }
+    ensures kept { IsSearching search.new }
+    ensures parts { search.new ≡ record search.old { order = search.new.order } }
+    ensures ok { OnOk result (vars ≤ search.new.order.vars) }
+{
+    search.order.reserve(vars)
 }
 
 fn grow_units(units: &mut Vec<Ref>, places: usize) -> Result<(), AllocError>
@@ -124,7 +138,8 @@ fn grow_tags(tags: &mut Vec<u32>, places: usize) -> Result<(), AllocError>
 /// The greatest variable of a set of literals, which ascend by variable; 0 if there is none.
 pub(crate) fn greatest_variable(lits: &[Lit]) -> u32
     requires { IsLitSet lits.now }
-    ensures { result ≡ greatest_of lits.now }
+    ensures value { result ≡ greatest_of lits.now }
+    ensures few { result ≤ 8388607 }
 {
     let count = lits.len();
     if count == 0 {
@@ -135,7 +150,8 @@ pub(crate) fn greatest_variable(lits: &[Lit]) -> u32
 
 // The greatest variable of the clauses, 0 if there is none.
 fn greatest_in(clauses: &[Clause]) -> u32
-    ensures { result ≡ greatest_of_all clauses.now }
+    ensures value { result ≡ greatest_of_all clauses.now }
+    ensures few { result ≤ 8388607 }
 {
     let mut greatest: u32 = 0;
     for clause in clauses {

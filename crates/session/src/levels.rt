@@ -7,7 +7,7 @@ ghost use Rattle.trail_core.specs.Trail.{lits_of, up_to};
 ghost use Rattle.trail_core.specs.UnderTrail.{IsComplete, IsUnassigned};
 ghost use Rattle.session.specs.OnTrail.{IsChoice};
 ghost use Rattle.session.specs.Cubes.{IsOnCube, KeepsCubes};
-ghost use Rattle.session.specs.Searching.{IsSearching, AreAllNamed};
+ghost use Rattle.session.specs.Searching.{IsSearching, AreAllNamed, HasSameVariables, solver_of};
 ghost use Rattle.session.specs.Watched.{IsSettled};
 
 use crate::search::Search;
@@ -43,8 +43,8 @@ pub(crate) fn decide(search: &mut Search, lit: Lit) -> Result<(), AllocError>
     Ok(())
 }
 
-/// Takes the levels above this one back. The search for a decision goes on where it was before
-/// they were opened.
+/// Takes the levels above this one back. The walk over the cube goes on where it was before they
+/// were opened.
 pub(crate) fn backjump(search: &mut Search, level: u32)
     requires kept { IsSearching search.old }
     requires within { level < search.old.trail.depth }
@@ -54,16 +54,45 @@ pub(crate) fn backjump(search: &mut Search, level: u32)
       trail = search.new.trail;
       cursor = search.new.cursor;
       cursors = search.new.cursors;
+      order = search.new.order;
     } }
     ensures entries { search.new.trail.entries ≡ up_to level search.old.trail.entries }
     ensures depth { search.new.trail.depth ≡ level }
     ensures vars { search.new.trail.vars ≡ search.old.trail.vars }
     ensures cubes { KeepsCubes search.old search.new }
 {
+    search.order.put_back_above(&search.trail, level);
     search.trail.back_to(level);
     let levels = level as usize;
     search.cursor = search.cursors[levels];
     search.cursors.truncate(levels);
     // Brings `IsTrail` of the shorter trail.
     let _ = search.trail.depth();
+}
+
+/// Takes all levels back.
+pub(crate) fn go_back(search: &mut Search)
+    requires kept { IsSearching search.old }
+    ensures kept { IsSearching search.new }
+    ensures zero { search.new.trail.depth ≡ 0 }
+    ensures solver { solver_of search.new ≡ solver_of search.old }
+    ensures variables { HasSameVariables search.old search.new }
+    ensures cubes { KeepsCubes search.old search.new }
+{
+    if search.trail.depth() > 0 {
+        backjump(search, 0);
+    }
+}
+
+/// Counts a learnt clause, and takes all levels back where a restart comes after it.
+pub(crate) fn restart_if_due(search: &mut Search)
+    requires kept { IsSearching search.old }
+    ensures kept { IsSearching search.new }
+    ensures solver { solver_of search.new ≡ solver_of search.old }
+    ensures variables { HasSameVariables search.old search.new }
+    ensures cubes { KeepsCubes search.old search.new }
+{
+    if search.restarts.is_due() {
+        go_back(search);
+    }
 }

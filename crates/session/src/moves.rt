@@ -1,14 +1,16 @@
 //! The next decision.
 
-ghost use Rattle.std.specs.Prelude.{◌≡◌, ℕ, ◌≤◌, ◌<◌, IfSome, IfNone, MatchBool, All, Contains};
+ghost use Rattle.std.specs.Prelude.{◌≡◌, ◌≤◌, IfSome, IfNone, MatchBool, All, Contains};
 ghost use Rattle.std.specs.Prelude.{take};
 ghost use Rattle.sat_base.specs.Lit.{IsLit, variable};
 ghost use Rattle.trail_core.specs.Trail.{IsTrail, lits_of};
-ghost use Rattle.trail_core.specs.UnderTrail.{IsTrueLit, IsUnassigned};
+ghost use Rattle.trail_core.specs.UnderTrail.{IsTrueLit};
 ghost use Rattle.session.specs.Moves.{IsMove};
-ghost use Rattle.session.specs.OnTrail.{AreAssigned, IsCubeTrue};
-ghost use Rattle.session.specs.Cursors.{PassesAssigned, PassesTrue};
+ghost use Rattle.session.specs.OnTrail.{IsCubeTrue};
+ghost use Rattle.session.specs.Cursors.{PassesTrue};
+ghost use Rattle.session.specs.Orders.{IsOrder, OffersFree};
 
+use crate::order::Order;
 use crate::search::Cursor;
 use sat_base::{Cube, Lit};
 use trail_core::Trail;
@@ -20,21 +22,25 @@ pub(crate) enum Move {
     Decide(Lit),
     /// A literal of the cube that is false.
     Blame(Lit),
-    /// Every variable is assigned.
+    /// Every variable of the inputs is assigned.
     Stop,
 }
 
 /// The cube's first literal that isn't true comes first, as the next decision where it is
-/// unassigned. Then it is a free variable, and none is left where the trail is a model. The cursor
-/// passes only literals that are true and variables that are assigned, before and after.
-pub(crate) fn next_move(trail: &Trail, cursor: &mut Cursor, cube: &Cube, vars: u32) -> Move
-    requires few { vars ≤ 8388607 }
+/// unassigned. Then it is a free variable of the order, and where none is left, the trail is a
+/// model. The cursor passes only literals that are true, before and after.
+pub(crate) fn next_move(trail: &Trail, cursor: &mut Cursor, order: &mut Order, cube: &Cube) -> Move
     requires passed { PassesTrue cube.now (lits_of trail.now.entries) cursor.old }
-    requires assigned { PassesAssigned (lits_of trail.now.entries) cursor.old }
-    requires within { All (λ lit. variable lit ≤ vars) cube.now }
+    requires order { IsOrder order.old }
+    requires offers { OffersFree trail.now.entries order.old.ranking }
+    requires reserved { order.old.vars ≤ trail.now.vars }
+    requires within { All (λ lit. variable lit ≤ trail.now.vars) cube.now }
     ensures passed { PassesTrue cube.now (lits_of trail.now.entries) cursor.new }
-    ensures assigned { PassesAssigned (lits_of trail.now.entries) cursor.new }
-    ensures next { IsMove (lits_of trail.now.entries) cube.now vars result }
+    ensures order { IsOrder order.new }
+    ensures offers { OffersFree trail.now.entries order.new.ranking }
+    ensures vars { order.new.vars ≡ order.old.vars }
+    ensures next { IsMove (lits_of trail.now.entries) cube.now order.old.vars trail.now.vars
+        result }
 {
     if let Some(lit) = first_open(trail, &mut cursor.literals, cube) {
         return match trail.value(lit) {
@@ -42,7 +48,7 @@ pub(crate) fn next_move(trail: &Trail, cursor: &mut Cursor, cube: &Cube, vars: u
             None => Move::Decide(lit),
         };
     }
-    match next_free(trail, &mut cursor.variables, vars) {
+    match order.next(trail) {
         Some(lit) => Move::Decide(lit),
         None => Move::Stop,
     }
@@ -76,57 +82,4 @@ pub(crate) fn is_true(trail: &Trail, lit: Lit) -> bool
         Some(value) => value,
         None => false,
     }
-}
-
-// The place where a free variable is chosen: the least one, which becomes false. The cursor spares
-// the walk over the variables below it.
-fn next_free(trail: &Trail, cursor: &mut u32, vars: u32) -> Option<Lit>
-    requires few { vars ≤ 8388607 }
-    requires assigned { AreAssigned (lits_of trail.now.entries) cursor.old }
-    ensures assigned { AreAssigned (lits_of trail.now.entries) cursor.new }
-    ensures some { IfSome result (λ lit. IsLit lit × (variable lit ≤ vars)
-        × IsUnassigned (lits_of trail.now.entries) lit) }
-    ensures none { IfNone result (AreAssigned (lits_of trail.now.entries) vars) }
-{
-    let begin = (*cursor).min(vars);
-    match free_among(trail, begin + 1, vars) {
-        Some(lit) => {
-            *cursor = lit.var() - 1;
-            Some(lit)
-        }
-        None => {
-            *cursor = vars;
-            None
-        }
-    }
-}
-
-// The negative literal of the first variable of these that is unassigned.
-fn free_among(trail: &Trail, first: u32, last: u32) -> Option<Lit>
-    requires low { 1 ≤ first }
-    requires high { last ≤ 8388607 }
-    ensures some { IfSome result (λ lit. IsLit lit × (variable lit ≤ last)
-        × IsUnassigned (lits_of trail.now.entries) lit) }
-    ensures least { IfSome result (λ lit. (other : ℕ) → IsLit other → first ≤ variable other
-        → variable other < variable lit → IsUnassigned (lits_of trail.now.entries) other → ⊥) }
-    ensures none { IfNone result ((lit : ℕ) → IsLit lit → first ≤ variable lit
-        → variable lit ≤ last → IsUnassigned (lits_of trail.now.entries) lit → ⊥) }
-{
-    for var in first..last + 1 {
-        let lit = negative(var);
-        if trail.value(lit).is_none() {
-            return Some(lit);
-        }
-    }
-    None
-}
-
-// The negative literal of a variable.
-fn negative(var: u32) -> Lit
-    requires low { 1 ≤ var }
-    requires high { var ≤ 8388607 }
-    ensures variable { variable result ≡ var }
-    ensures is { IsLit result }
-{
-    Lit::of(-(var as i32)).unwrap()
 }

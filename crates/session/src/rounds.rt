@@ -4,11 +4,11 @@
 //! - If a clause is false at level 0, the inputs are refuted: `refute_all`.
 //! - If a clause is false above level 0, analyze the conflict to its first unique implication
 //!   point, learn the clause that it gives, jump back to where this is unit, and assert its
-//!   literal: `learn_and_backjump`.
+//!   literal: `learn_and_backjump`. Now and then go back to level 0: `restart_if_due`.
 //! - Else if an assumption is false, a part of the cube is refuted: `refute_literal`.
 //! - Else if an assumption is unassigned, it is the next decision; then it is a free variable:
 //!   `next_move` and `decide`.
-//! - Else all variables are assigned, and the trail is a model: `assignment`.
+//! - Else all variables of the inputs are assigned, and the trail is a model: `assignment`.
 
 ghost use Rattle.std.specs.Prelude.{◌≡◌, ℕ, ◌<◌, List, [], length, IfOk, IfSome, IfNone};
 ghost use Rattle.trail_core.specs.UnderTrail.{IsComplete};
@@ -22,7 +22,7 @@ ghost use Rattle.session.specs.Descents.{Descends};
 ghost use Rattle.session.specs.Solving.{Concludes, Keeps, Learns, LearnsOne, Solves};
 
 use crate::conflicts::learn_and_backjump;
-use crate::levels::decide;
+use crate::levels::{decide, restart_if_due};
 use crate::models::assignment;
 use crate::moves::{Move, next_move};
 use crate::propagation::propagate_and_name;
@@ -107,6 +107,7 @@ fn resolve_conflict(search: &mut Search, id: usize) -> Result<Option<Round>, All
 {
     if search.trail.depth() != 0 {
         learn_and_backjump(search, id)?;
+        restart_if_due(search);
         return Ok(None);
     }
     let (part, number) = refute_all(search, id)?;
@@ -170,7 +171,7 @@ fn decide_or_answer(
     ensures longer { IfOk result (λ end. IfNone end
         (length search.old.trail.entries < length search.new.trail.entries)) }
 {
-    match next_move(&search.trail, &mut search.cursor, cube, vars) {
+    match next_move(&search.trail, &mut search.cursor, &mut search.order, cube) {
         Move::Decide(lit) => {
             decide(search, lit)?;
             Ok(None)

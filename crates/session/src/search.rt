@@ -6,6 +6,8 @@ ghost use Rattle.trace_core.specs.Trace.{IsOkStep, known_of};
 ghost use Rattle.session.specs.Searching.{IsSearching, solver_of, table_of};
 ghost use Rattle.session.specs.Fronts.{IsFront};
 
+use crate::order::Order;
+use crate::restarts::Restarts;
 use analyze::Scratch;
 use propagate::Store;
 use sat_base::Ref;
@@ -14,12 +16,11 @@ use std::sync::Arc;
 use trace_core::{Packet, Step};
 use trail_core::Trail;
 
-/// How far the search for a decision has come, so that it needn't begin anew: so many first literals
-/// of the cube are true, and all variables up to this one are assigned.
+/// How far the walk over the cube has come, so that it needn't begin anew: so many first literals of
+/// it are true.
 #[derive(Clone, Copy, Debug)]
 pub(crate) struct Cursor {
     pub(crate) literals: usize,
-    pub(crate) variables: u32,
 }
 
 /// The parts of a solver. What they keep together is said in `specs/Searching.antt`.
@@ -35,10 +36,13 @@ pub(crate) struct Search {
     pub(crate) units: Vec<Ref>,
     pub(crate) tags: Vec<u32>,
     pub(crate) named: usize,
-    // How far the search for a decision has come, and how far it had come when each level was
-    // opened: item n belongs to level n + 1.
+    // How far the walk over the cube has come, and how far it had come when each level was opened:
+    // item n belongs to level n + 1.
     pub(crate) cursor: Cursor,
     pub(crate) cursors: Vec<Cursor>,
+    // Which free variable is decided next, and when the search goes back to level 0 for once.
+    pub(crate) order: Order,
+    pub(crate) restarts: Restarts,
     // The greatest variable of the inputs, their number, and the number of the job that is loaded.
     pub(crate) greatest: u32,
     pub(crate) inputs: u32,
@@ -51,8 +55,9 @@ pub(crate) struct Search {
 }
 
 impl Search {
-    /// A search without inputs, at level 0. Takes no memory.
-    pub(crate) fn new(alloc: Global) -> Search
+    /// A search without inputs, at level 0, whose order of decisions is that of the variant. Takes
+    /// no memory.
+    pub(crate) fn new(alloc: Global, variant: u32) -> Search
         ensures kept { IsSearching result }
         ensures solver { solver_of result ≡ record {
           inputs = [];
@@ -73,11 +78,10 @@ impl Search {
             units: Vec::new(alloc),
             tags: Vec::new(alloc),
             named: 0,
-            cursor: Cursor {
-                literals: 0,
-                variables: 0,
-            },
+            cursor: Cursor { literals: 0 },
             cursors: Vec::new(alloc),
+            order: Order::new(alloc, variant),
+            restarts: Restarts::new(),
             greatest: 0,
             inputs: 0,
             bound: 0,

@@ -45,13 +45,14 @@ impl Model for Session {
 }
 
 impl Session {
-    /// A session without clauses. Takes no memory. The variant is for the order of decisions, and
-    /// has no effect yet.
-    pub fn new(alloc: Global, _variant: u32) -> Session
+    /// A session without clauses. Takes no memory. The variant is for the order of decisions, so
+    /// that two sessions needn't search the same way: there are eight orders, those of the variants
+    /// 0 to 7.
+    pub fn new(alloc: Global, variant: u32) -> Session
         ensures { result ≡ record { solver = no_inputs; names = [] } }
     {
         Session {
-            search: Search::new(alloc),
+            search: Search::new(alloc, variant),
             names: Vec::new(alloc),
         }
     }

@@ -5,7 +5,7 @@ ghost use Rattle.session.specs.Searching.{IsSearching, solver_of};
 ghost use Rattle.session.specs.Solving.{Keeps, Solves};
 
 use crate::inputs::{greatest_variable, reserve};
-use crate::levels::backjump;
+use crate::levels::go_back;
 use crate::rounds::{Round, run_round};
 use crate::search::Search;
 use sat_base::Cube;
@@ -43,16 +43,4 @@ fn solve_deep(search: &mut Search, cube: &Cube, limit: u64) -> Result<Round, All
     reserve(search, vars)?;
     search.cursor.literals = 0;
     run_round(search, cube, vars, limit)
-}
-
-// Takes all levels back.
-fn go_back(search: &mut Search)
-    requires kept { IsSearching search.old }
-    ensures kept { IsSearching search.new }
-    ensures zero { search.new.trail.depth ≡ 0 }
-    ensures solver { solver_of search.new ≡ solver_of search.old }
-{
-    if search.trail.depth() > 0 {
-        backjump(search, 0);
-    }
 }

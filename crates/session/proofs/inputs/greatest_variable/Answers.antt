@@ -3,8 +3,8 @@ use Rattle.sat_base.specs.Lit.{variable}
 use Rattle.session.proofs.UpTo.{last_greatest}
 use Rattle.session.proofs.inputs.greatest_variable.Goals as goal
 
-pub returns : goal.returns
-returns c =
+pub returns-clause-value : goal.returns-clause-value
+returns-clause-value c =
     let lit = c.index-lits-count.result in
     c.var.ensures.value ∙ ap variable c.index-lits-count.is
     ∙ sym (last_greatest c.args.lits.now (length c.args.lits.now - 1) lit c.requires.ascending

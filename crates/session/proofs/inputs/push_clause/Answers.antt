@@ -13,7 +13,7 @@ pub add-requires : goal.add-requires
 add-requires c =
     All-from_members (λ lit. variable lit ≤ c.args.search.now.store.vars) c.args.clause.now
     (λ lit has. (let low = below_greatest c.args.clause.now lit has in
-    omega (arith, low, c.requires.reserved, c.requires.kept.room.in_store)))
+    omega (arith, low, c.requires.entered, c.requires.kept.order.reserved, c.requires.kept.room.in_store)))
 
 pub returns-in_err-add-clause-kept : goal.returns-in_err-add-clause-kept
 returns-in_err-add-clause-kept c =
@@ -29,10 +29,10 @@ returns-in_err-add-clause-parts c =
 pub returns-clause-kept : goal.returns-clause-kept
 returns-clause-kept c =
     let s = c.args.search.now in
-    let greatest = c.greatest_variable.ensures ∙ ap greatest_of c.lits.ensures.value in
+    let greatest = c.greatest_variable.ensures.value ∙ ap greatest_of c.lits.ensures.value in
     search_input s c.args.clause.now c.add.new.self c.args.job
     (s.inputs + 1) c.greatest_variable.result c.max-search.result c.requires.kept c.requires.zero c.lits.ensures.set c.requires.job refl greatest c.max-search.ensures
-    (omega (arith, greatest, c.requires.reserved)) c.in_ok-add.ensures.ok c.in_ok-add.ensures.fresh c.in_ok-add.ensures.vars
+    (omega (arith, greatest, c.requires.entered)) c.in_ok-add.ensures.ok c.in_ok-add.ensures.fresh c.in_ok-add.ensures.vars
 
 pub returns-clause-parts : goal.returns-clause-parts
 returns-clause-parts c = (input_came c.args.search.now _ c.args.clause.now c.args.job

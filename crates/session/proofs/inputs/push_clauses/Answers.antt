@@ -6,7 +6,7 @@ use Rattle.session.proofs.Loaded.{inputs_only_twice}
 use Rattle.session.proofs.inputs.push_clauses.Goals as goal
 
 pub loop-clause-init : goal.loop-clause-init
-loop-clause-init c = (c.requires.kept, loading_starts c.args.search.now c.args.clauses.now c.args.job c.requires.job c.requires.few c.requires.reserved)
+loop-clause-init c = (c.requires.kept, loading_starts c.args.search.now c.args.clauses.now c.args.job c.requires.job c.requires.few c.requires.entered)
 
 -- the next of the clauses that are left
 next : (c : goal.After-push_clause-arg-1) → drop c.loop-clause.clause-index c.args.clauses.now
@@ -28,8 +28,8 @@ push_clause-requires-clause-few c =
     (drop c.loop-clause.clause-index c.args.clauses.now)
     (drop (c.loop-clause.clause-index + 1) c.args.clauses.now) c.clause-item.result c.args.job c.loop-clause.invariant.1 (next c)).1
 
-pub push_clause-requires-clause-reserved : goal.push_clause-requires-clause-reserved
-push_clause-requires-clause-reserved c =
+pub push_clause-requires-clause-entered : goal.push_clause-requires-clause-entered
+push_clause-requires-clause-entered c =
     (loading_next c.args.search.now c.loop-clause.search c.args.clauses.now
     (drop c.loop-clause.clause-index c.args.clauses.now)
     (drop (c.loop-clause.clause-index + 1) c.args.clauses.now) c.clause-item.result c.args.job c.loop-clause.invariant.1 (next c)).0

@@ -13,7 +13,7 @@ open_level-requires c =
 pub returns-in_err-push-clause-kept : goal.returns-in_err-push-clause-kept
 returns-in_err-push-clause-kept c =
     let s = c.args.search.now in
-    search_moved s s.cursor c.push.new.self c.requires.kept c.in_err-push.ensures.items c.requires.kept.cursors.present
+    search_moved s s.cursor c.push.new.self s.order c.requires.kept c.in_err-push.ensures.items c.requires.kept.order
 
 pub returns-in_err-push-clause-cube : goal.returns-in_err-push-clause-cube
 returns-in_err-push-clause-cube c = λ cube allowed on_cube.

@@ -8,7 +8,7 @@ returns-in-None-clause-next c =
     let some = c.in-Some.ensures.some in
     record {
       is = some.0;
-      within = All-contains (λ lit. variable lit ≤ c.args.vars) c.args.cube.now c.in-Some.lit c.requires.within some.1;
+      within = All-contains (λ lit. variable lit ≤ c.args.trail.now.vars) c.args.cube.now c.in-Some.lit c.requires.within some.1;
       free = c.in-None.ensures.value;
       allowed = inl some.1;
     }

@@ -15,15 +15,15 @@ pub run_round-requires : goal.run_round-requires
 run_round-requires c =
     let s = c.args.search.now in
     let mid = c.reserve.new.search in
-    let cursor : Cursor = record { literals = 0; variables = mid.cursor.variables } in
+    let cursor : Cursor = record { literals = 0 } in
     let begun : Search = record mid { cursor = cursor } in
     let e = c.in_ok-reserve.ensures in
     let low = few_variables s c.requires.kept in
     let low_cube = few_in_cube c.args.cube.now c.lits-lits.ensures.set in
-    let of_cube = c.greatest_variable.ensures ∙ ap greatest_of c.lits-lits.ensures.value in
+    let of_cube = c.greatest_variable.ensures.value ∙ ap greatest_of c.lits-lits.ensures.value in
     record {
       round = record {
-        kept = search_moved mid cursor mid.cursors e.kept refl e.kept.cursors.present;
+        kept = search_moved mid cursor mid.cursors mid.order e.kept refl e.kept.order;
         on_cube = on_cube_at_zero c.args.cube.now begun e.kept.trail (e.depth ∙ c.requires.zero) refl;
         variables = record {
           are = c.max-vars.ensures ∙ ap (λ n. max n c.greatest_variable.result) (sym e.numbers.0)
