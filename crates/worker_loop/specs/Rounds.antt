@@ -1,6 +1,6 @@
 -- The rounds of an attempt.
-use Rattle.std.specs.Prelude.{◌≡◌, ℕ, ◌-◌, ◌<◌, ◌≤◌, Bool, min, List, [], ◌++◌, length, Option, None}
-use Rattle.std.specs.Prelude.{Some}
+use Rattle.std.specs.Prelude.{◌≡◌, ℕ, ◌-◌, ◌<◌, ◌≤◌, Bool, min, List, [], ◌++◌, length, Option}
+use Rattle.std.specs.Prelude.{None, Some}
 use Rattle.std.specs.Arc.{arc_value}
 use Rattle.sat_base.specs.Truth.{IsModelOf}
 use Rattle.trace_core.specs.declared.derivation.Step.{Step}
@@ -58,7 +58,8 @@ IsOfLearnt solver attempt end = IsListOf solver.steps attempt.learnt.items end
 -- What the session has learnt when an attempt at the job begins: nothing where it was past the job,
 -- and else what it had learnt.
 abbrev pub IsLearntBefore : Solver → ℕ → List ℕ → Type 0
-IsLearntBefore old job first = (old.bound ≤ job → first ≡ old.learnt) × (job < old.bound → first ≡ [])
+IsLearntBefore old job first =
+    (old.bound ≤ job → first ≡ old.learnt) × (job < old.bound → first ≡ [])
 
 -- An attempt at the job learnt these clauses, at most as many as the budget allows, and a spent
 -- list is exactly these.
