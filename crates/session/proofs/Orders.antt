@@ -1,13 +1,13 @@
 -- The order of decisions while a search goes on.
 use Rattle.std.proofs.Common.{◌≡◌, ◌∙◌, ℕ, ◌+◌, ◌-◌, ◌<◌, ◌≤◌, List, [], ◌∷◌, ◌++◌, length, take, drop}
 use Rattle.std.proofs.Common.{ap, sym, subst, inl, inr, arith, get_or}
-use Rattle.std.specs.Prelude.{◌⊎◌, All, Contains, IfSome, IfNone, Option, None, Some}
+use Rattle.std.specs.Prelude.{◌⊎◌, Contains, IfSome, IfNone, Option, None, Some}
 use Rattle.std.proofs.lemmas.Bool.{cases_lt, cases_eq}
 use Rattle.std.proofs.lemmas.List.{take-append-drop, length_push, get_or_append_left}
 use Rattle.std.proofs.lemmas.List.{get_or_push, get_or-map, take_more}
 use Rattle.std.proofs.lemmas.List.Elements.{All-weaker, Contains-append_right}
 use Rattle.sat_base.proofs.Members.{Contains-here}
-use Rattle.sat_base.specs.Lit.{IsLit, variable, opposite}
+use Rattle.sat_base.specs.Lit.{variable, opposite}
 use Rattle.sat_base.proofs.Opposite.{variable-opposite}
 use Rattle.trail_core.specs.Trail.{Entry, TrailView, StandsAt, IsFree, no_entry, entry_at, lits_of}
 use Rattle.trail_core.specs.Trail.{up_to}

@@ -23,14 +23,16 @@ use std::alloc::AllocError;
 use trace_core::Step;
 use trail_core::Trail;
 
-/// What a conflict teaches: a clause, the level at which it is unit, the step that derives it, and
-/// the variables that the clauses it came from have above level 0.
+/// What a conflict teaches: a clause, the level at which it is unit, the step that derives it, the
+/// variables that the clauses it came from have above level 0, and of how many levels its literals
+/// are, as far as `levels_of` tells them apart.
 #[derive(Debug, Drop)]
 pub(crate) struct Lesson {
     clause: Clause,
     back: u32,
     step: Step,
     met: Items<u32>,
+    levels: u32,
 }
 
 /// Learns a clause from a clause that is false above level 0, ranks the variables higher that it
@@ -50,8 +52,10 @@ pub(crate) fn learn_and_backjump(search: &mut Search, conflict: usize) -> Result
         back,
         step,
         met,
+        levels,
     } = analyze_conflict(search, conflict)?;
     search.order.bump_all(met.items());
+    search.restarts.count_clause(levels);
     let tag = step.tag;
     let number = push_step(search, step)?;
     // Back first: where the clause finds no room, the trail stands as it should all the same.
@@ -78,12 +82,29 @@ fn analyze_conflict(search: &mut Search, conflict: usize) -> Result<Lesson, Allo
         &search.trail,
         conflict,
     )?;
+    let levels = levels_of(&search.trail, &learnt.clause);
     Ok(Lesson {
         clause: learnt.clause,
         back: learnt.back,
         step: learnt.step,
         met: learnt.met,
+        levels,
     })
+}
+
+// Of how many levels the literals of a clause are. Levels that are a multiple of 1024 apart count as
+// one.
+fn levels_of(trail: &Trail, clause: &Clause) -> u32 {
+    let mut marks = [0u64; 16];
+    for lit in clause.lits() {
+        let level = trail.level(lit.var()).unwrap_or(0);
+        marks[(level / 64 % 16) as usize] |= 1u64 << (level % 64);
+    }
+    let mut count: u32 = 0;
+    for mark in marks {
+        count = count.saturating_add(mark.count_ones());
+    }
+    count
 }
 
 // Adds the clause of an own step to the store, lists the step as learnt, and makes the literal of

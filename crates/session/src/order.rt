@@ -37,7 +37,7 @@ impl Order {
         ensures offers { (entries : List Entry) → OffersFree entries result.ranking }
     {
         Order {
-            ranking: Ranking::new(alloc, variant % 2 == variant / 4 % 2),
+            ranking: Ranking::new(alloc, ranks_by_scores(variant)),
             phases: Phases::new(alloc, variant % 2 == 1),
             vars: 0,
             at_end: variant / 2 % 2 == 0,
@@ -152,6 +152,11 @@ impl Order {
         let var = self.ranking.next_free(trail)?;
         Some(literal(var, self.phases.get(var)))
     }
+}
+
+/// Whether an order of this variant ranks by scores.
+pub(crate) fn ranks_by_scores(variant: u32) -> bool {
+    variant % 2 == variant / 4 % 2
 }
 
 // How many literals of a trail are of this level and those below it.

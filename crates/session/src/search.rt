@@ -6,7 +6,7 @@ ghost use Rattle.trace_core.specs.Trace.{IsOkStep, known_of};
 ghost use Rattle.session.specs.Searching.{IsSearching, solver_of, table_of};
 ghost use Rattle.session.specs.Fronts.{IsFront};
 
-use crate::order::Order;
+use crate::order::{Order, ranks_by_scores};
 use crate::restarts::Restarts;
 use analyze::Scratch;
 use propagate::Store;
@@ -81,7 +81,7 @@ impl Search {
             cursor: Cursor { literals: 0 },
             cursors: Vec::new(alloc),
             order: Order::new(alloc, variant),
-            restarts: Restarts::new(),
+            restarts: Restarts::new(ranks_by_scores(variant)),
             greatest: 0,
             inputs: 0,
             bound: 0,

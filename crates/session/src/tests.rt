@@ -215,7 +215,7 @@ struct VariantRow {
     model: [bool; 2],
 }
 
-const VARIANT_ROWS: [VariantRow; 8] = [
+const VARIANT_ROWS: [VariantRow; 4] = [
     VariantRow {
         variant: 0,
         model: [true, false],
@@ -230,22 +230,6 @@ const VARIANT_ROWS: [VariantRow; 8] = [
     },
     VariantRow {
         variant: 3,
-        model: [true, true],
-    },
-    VariantRow {
-        variant: 4,
-        model: [true, false],
-    },
-    VariantRow {
-        variant: 5,
-        model: [true, true],
-    },
-    VariantRow {
-        variant: 6,
-        model: [false, true],
-    },
-    VariantRow {
-        variant: 4_294_967_295,
         model: [true, true],
     },
 ];
@@ -290,14 +274,34 @@ fn a_variable_is_decided_as_it_was_last(rt: HostRuntime) -> Result<(), Fail> {
 // Counts learnt clauses up to a restart, which comes after so many.
 fn restart_after(rt: &impl Abort, restarts: &mut Restarts, learnt: u32) {
     for _ in 1..learnt {
+        restarts.count_clause(1);
         assert!(rt; !restarts.is_due());
     }
+    restarts.count_clause(1);
     assert!(rt; restarts.is_due());
+}
+
+// By glue a restart comes where the clauses learnt of late have more levels than those before.
+#[test]
+fn restarts_follow_the_number_of_levels(rt: HostRuntime) -> Result<(), Fail> {
+    let mut restarts = Restarts::new(true);
+    for _ in 0..1000 {
+        restarts.count_clause(4);
+        assert!(rt; !restarts.is_due());
+    }
+    let mut waited: u32 = 0;
+    while waited < 100 && !restarts.is_due() {
+        restarts.count_clause(8);
+        waited += 1;
+    }
+    assert!(rt; waited > 1);
+    assert!(rt; waited < 100);
+    Ok(())
 }
 
 #[test]
 fn restarts_follow_the_sequence(rt: HostRuntime) -> Result<(), Fail> {
-    let mut restarts = Restarts::new();
+    let mut restarts = Restarts::new(false);
     for learnt in [64, 64, 128, 64] {
         restart_after(&rt, &mut restarts, learnt);
     }

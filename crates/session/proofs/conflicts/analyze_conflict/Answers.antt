@@ -24,6 +24,7 @@ returns-clause-lesson c =
       back = learnt.back;
       step = learnt.step;
       met = learnt.met;
+      levels = c.levels_of-levels.result;
     }) learnt.met c.requires.kept c.requires.deep e.step e.refuted e.asserting
     (subst (λ clauses. IsNew clauses learnt.clause) c.arena.ensures.value e.fresh)
     (subst (λ clauses. Derives s.trail.entries learnt.step learnt.met clauses s.units.items s.tags.items) c.arena.ensures.value

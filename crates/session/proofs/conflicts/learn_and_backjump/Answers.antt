@@ -4,6 +4,7 @@ use Rattle.trace_core.specs.Trace.{IsOkStep}
 use Rattle.trail_core.specs.Trail.{TrailView, up_to}
 use Rattle.session.specs.declared.search.Search.{Search}
 use Rattle.session.specs.declared.order.Order.{Order}
+use Rattle.session.specs.declared.restarts.Restarts.{Restarts}
 use Rattle.session.specs.Orders.{OffersFree, IsOrder}
 use Rattle.session.specs.Lessons.{IsLesson}
 use Rattle.session.specs.Searching.{IsSearching, solver_of, table_of}
@@ -11,30 +12,30 @@ use Rattle.session.specs.Solving.{LearnsOne}
 use Rattle.session.proofs.Lists.{both_ok}
 use Rattle.session.proofs.OnCubes.{on_cube_stepped}
 use Rattle.session.proofs.Orders.{order_changed}
-use Rattle.session.proofs.Keeping.{search_moved}
+use Rattle.session.proofs.Keeping.{search_counted, search_moved}
 use Rattle.session.proofs.Learnings.{lesson_open, lesson_forces, lesson_free, lesson_learnt}
 use Rattle.session.proofs.Learnings.{lesson_ready}
-use Rattle.session.proofs.conflicts.learn_and_backjump.Goals.{After-bump_all, After-push_step, After-backjump}
+use Rattle.session.proofs.conflicts.learn_and_backjump.Goals.{After-count_clause, After-push_step, After-backjump}
 use Rattle.session.proofs.conflicts.learn_and_backjump.Goals as goal
 
 -- the search whose variables were bumped
-abbrev bumped : Search → Order → Search
-bumped search order = record search { order = order }
+abbrev bumped : Search → Order → Restarts → Search
+bumped search order restarts = record search { order = order; restarts = restarts }
 
-kept_bumped : (c : After-bump_all) → IsSearching (bumped c.args.search.now c.bump_all.new.self)
+kept_bumped : (c : After-count_clause) → IsSearching (bumped c.args.search.now c.bump_all.new.self c.count_clause.new.self)
 kept_bumped c =
     let s = c.args.search.now in
     let e = c.bump_all.ensures in
     let same = ap (λ (x : Search). x.order) c.in_ok-clause.ensures.same in
-    let now = c.analyze_conflict.new.search.order in
-    search_moved s s.cursor s.cursors c.bump_all.new.self c.requires.kept refl
+    search_counted (record s { order = c.bump_all.new.self }) c.count_clause.new.self
+    (search_moved s s.cursor s.cursors c.bump_all.new.self c.requires.kept refl
     (order_changed s.greatest s.trail s.trail s.order c.bump_all.new.self e.is
     (e.vars ∙ ap (λ (o : Order). o.vars) same) refl
     (e.offers s.trail.entries (subst (λ (o : Order). OffersFree s.trail.entries o.ranking)
-    (sym same) c.requires.kept.order.offers)) c.requires.kept.order)
+    (sym same) c.requires.kept.order.offers)) c.requires.kept.order))
 
 -- the lesson stands
-lesson_bumped : (c : After-bump_all) → IsLesson (bumped c.args.search.now c.bump_all.new.self) c.in_ok-clause.field-0
+lesson_bumped : (c : After-count_clause) → IsLesson (bumped c.args.search.now c.bump_all.new.self c.count_clause.new.self) c.in_ok-clause.field-0
 lesson_bumped c =
     let l = c.in_ok-clause.ensures.lesson in
     record {
@@ -54,8 +55,8 @@ bump_all-requires c = record {
 
 pub push_step-requires-clause-kept : goal.push_step-requires-clause-kept
 push_step-requires-clause-kept c = subst (λ (s : Search). IsSearching
-    (record s { order = c.bump_all.new.self }))
-    (sym c.in_ok-clause.ensures.same) (kept_bumped (goal.at.push_step-requires-clause-kept c).After-bump_all)
+    (record s { order = c.bump_all.new.self; restarts = c.count_clause.new.self }))
+    (sym c.in_ok-clause.ensures.same) (kept_bumped (goal.at.push_step-requires-clause-kept c).After-count_clause)
 
 pub push_step-requires-clause-ok : goal.push_step-requires-clause-ok
 push_step-requires-clause-ok c = subst (λ (s : Search). IsOkStep
@@ -64,10 +65,11 @@ push_step-requires-clause-ok c = subst (λ (s : Search). IsOkStep
 
 -- only bumps and a step came before the jump back
 stepped : (c : After-push_step) → c.push_step.new.search
-    ≡ record (bumped c.args.search.now c.bump_all.new.self) { steps = c.push_step.new.search.steps }
+    ≡ record (bumped c.args.search.now c.bump_all.new.self c.count_clause.new.self) { steps = c.push_step.new.search.steps }
 stepped c = c.push_step.ensures.parts
     ∙ ap (λ (x : Search). record x {
       order = c.bump_all.new.self;
+      restarts = c.count_clause.new.self;
       steps = c.push_step.new.search.steps;
     }) c.in_ok-clause.ensures.same
 
@@ -124,7 +126,7 @@ hold-requires-clause-forced c =
 
 pub returns-clause-ok : goal.returns-clause-ok
 returns-clause-ok c =
-    let old = bumped c.args.search.now c.bump_all.new.self in
+    let old = bumped c.args.search.now c.bump_all.new.self c.count_clause.new.self in
     let p = c.push_step.new.search in
     let b = c.backjump.new.search in
     let h = c.hold.new.search in
@@ -137,7 +139,7 @@ returns-clause-ok c =
     } ∷ [] in
     let listed : Type 0 = h.learnt.items ≡ b.learnt.items ++ number ∷ [] in
     both_ok c.hold.result held listed (LearnsOne (solver_of old) (solver_of h))
-    (λ added last. lesson_learnt old p b h lesson number (kept_bumped (goal.at.returns-clause-ok c).After-bump_all) (lesson_bumped (goal.at.returns-clause-ok c).After-bump_all) c.unassigned.ensures.set
+    (λ added last. lesson_learnt old p b h lesson number (kept_bumped (goal.at.returns-clause-ok c).After-count_clause) (lesson_bumped (goal.at.returns-clause-ok c).After-count_clause) c.unassigned.ensures.set
     (stepped (goal.at.returns-clause-ok c).After-push_step)
     (c.in_ok-number.ensures.pushed ∙ ap (λ (x : Search). x.steps.items
     ++ lesson.step ∷ []) c.in_ok-clause.ensures.same)
@@ -147,6 +149,6 @@ returns-clause-ok c =
 pub returns-clause-cubes : goal.returns-clause-cubes
 returns-clause-cubes c = λ cube on_cube.
     c.hold.ensures.cubes cube (c.backjump.ensures.cubes cube
-    (on_cube_stepped cube (bumped c.args.search.now c.bump_all.new.self) c.push_step.new.search
+    (on_cube_stepped cube (bumped c.args.search.now c.bump_all.new.self c.count_clause.new.self) c.push_step.new.search
     (stepped (goal.at.returns-clause-cubes c).After-push_step)
     (record { decisions = on_cube.decisions; cursors = on_cube.cursors })))

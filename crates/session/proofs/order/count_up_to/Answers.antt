@@ -1,6 +1,6 @@
 use Rattle.std.proofs.Common.{◌≡◌, refl, arith, subst}
 use Rattle.session.proofs.Fronts.{IsAbove}
-use Rattle.session.proofs.Orders.{front_here, front_none, above_more}
+use Rattle.session.proofs.Orders.{front_here, front_none}
 use Rattle.session.proofs.order.count_up_to.Goals as goal
 
 pub returns-then-not-is_above-clause-front : goal.returns-then-not-is_above-clause-front
