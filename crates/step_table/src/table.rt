@@ -85,8 +85,9 @@ impl Steps {
         self.rows.len()
     }
 
-    /// Adds a step behind the others, with its literals in ascending order. A table that would have more than 4,294,967,295 literals or
-    /// hints is answered as want of memory. Where memory is refused all stays as it was.
+    /// Adds a step behind the others, with its literals in ascending order. A table that would have
+    /// more than 4,294,967,295 literals or hints is answered as want of memory. Where memory is
+    /// refused all stays as it was.
     pub fn push(&mut self, lits: &[Lit], hints: &[Ref], tag: u32) -> Result<(), AllocError>
         requires { IsLitSet lits.now }
         ensures ok { OnOk result (self.new

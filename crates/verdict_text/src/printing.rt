@@ -127,7 +127,7 @@ fn lits_of(answer: &Answer) -> usize {
     }
 }
 
-// Room for the block of this verdict but its steps.
+// Room for the block of this verdict but its steps. It only saves growing: no contract needs it.
 fn room(verdict: &Verdict) -> usize {
     let lits = match verdict {
         Verdict::Answered(answer) => lits_of(answer),
