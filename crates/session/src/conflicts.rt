@@ -92,8 +92,8 @@ fn analyze_conflict(search: &mut Search, conflict: usize) -> Result<Lesson, Allo
     })
 }
 
-// Of how many levels the literals of a clause are. Levels that are a multiple of 1024 apart count as
-// one.
+// Of how many levels the literals of a clause are. Levels that are a multiple of 1024 apart count
+// as one.
 fn levels_of(trail: &Trail, clause: &Clause) -> u32 {
     let mut marks = [0u64; 16];
     for lit in clause.lits() {

@@ -72,8 +72,8 @@ impl Ranking {
         }
     }
 
-    /// Says that the last literal of a trail, whose variable this is, is taken back. One that wasn't
-    /// entered is passed over. Takes no memory.
+    /// Says that the last literal of a trail, whose variable this is, is taken back. One that
+    /// wasn't entered is passed over. Takes no memory.
     pub(crate) fn put_back(&mut self, var: u32)
         requires { 1 ≤ var }
         ensures offers { (entries : List Entry) (last : Entry) → variable last.lit ≡ var

@@ -16,8 +16,8 @@ use std::sync::Arc;
 use trace_core::{Packet, Step};
 use trail_core::Trail;
 
-/// How far the walk over the cube has come, so that it needn't begin anew: so many first literals of
-/// it are true.
+/// How far the walk over the cube has come, so that it needn't begin anew: so many first literals
+/// of it are true.
 #[derive(Clone, Copy, Debug)]
 pub(crate) struct Cursor {
     pub(crate) literals: usize,

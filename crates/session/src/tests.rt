@@ -10,7 +10,6 @@ ghost use Rattle.session.specs.Loading.{loaded, tagged};
 ghost use Rattle.session.specs.Sharing.{IsTakable};
 ghost use Rattle.session.specs.Session.{no_inputs};
 
-use crate::restarts::Restarts;
 use crate::{Conclusion, Round, Session};
 use sat_base::{Clause, Cube, Lit, Ref};
 use std::alloc::{AllocError, Global};
@@ -35,7 +34,7 @@ fn cube(alloc: Global, rt: &impl Abort, numbers: &[i32]) -> Result<Cube, AllocEr
     Cube::from_lits(alloc, &lits(alloc, rt, numbers)?)
 }
 
-// A session of the first variant that is loaded with these inputs, before any round.
+// A session that is loaded with these inputs, before any round.
 fn start(
     alloc: Global,
     rt: &impl Abort,
@@ -47,24 +46,8 @@ fn start(
       names = [];
     }) }
 {
-    start_variant(alloc, rt, 0, clauses, cube)
-}
-
-// The same of this variant.
-fn start_variant(
-    alloc: Global,
-    rt: &impl Abort,
-    variant: u32,
-    clauses: &[Clause],
-    cube: &Cube,
-) -> Result<Session, AllocError>
-    ensures { IfOk result (λ session. session ≡ record {
-      solver = loaded no_inputs clauses.now;
-      names = [];
-    }) }
-{
     assert!(rt; clauses.len() <= 16_777_216);
-    let mut session = Session::new(alloc, variant);
+    let mut session = Session::new(alloc, 0);
     session.load(clauses, cube)?;
     Ok(session)
 }
@@ -193,117 +176,17 @@ fn paused(alloc: Global, rt: &impl Abort, clauses: &[Clause]) -> Result<Session,
     }
 }
 
-// The session's answer to the cube is this model.
-fn has_model(
-    rt: &impl Abort,
-    session: &mut Session,
-    cube: &Cube,
-    values: &[bool],
-) -> Result<(), Fail> {
-    match session.solve(cube, 1)? {
-        Round::Model(model) => assert_eq!(rt; model.values(), values),
-        _ => panic!(rt; "no model"),
-    }
-    Ok(())
-}
-
-// The model of the clause 1 2 that a variant comes to. The first decision of a variant that enters
-// variables at the end is variable 2, the other ones begin with variable 1.
-#[derive(Clone, Copy)]
-struct VariantRow {
-    variant: u32,
-    model: [bool; 2],
-}
-
-const VARIANT_ROWS: [VariantRow; 4] = [
-    VariantRow {
-        variant: 0,
-        model: [true, false],
-    },
-    VariantRow {
-        variant: 1,
-        model: [true, true],
-    },
-    VariantRow {
-        variant: 2,
-        model: [false, true],
-    },
-    VariantRow {
-        variant: 3,
-        model: [true, true],
-    },
-];
-
-fn decide_first(rt: &impl Abort, alloc: Global, row: VariantRow) -> Result<(), Fail> {
-    let clauses = [clause(alloc, rt, &[1, 2])?];
-    let free = cube(alloc, rt, &[])?;
-    let mut session = start_variant(alloc, rt, row.variant, &clauses, &free)?;
-    has_model(rt, &mut session, &free, &row.model)
-}
-
 #[test]
-fn variants_begin_with_decisions_of_their_own(rt: HostRuntime) -> Result<(), Fail> {
-    for row in VARIANT_ROWS {
-        decide_first(&rt, rt.alloc(), row)?;
-    }
-    Ok(())
-}
-
-#[test]
-fn a_variable_that_no_input_has_is_false_where_it_is_not_assumed(
-    rt: HostRuntime,
-) -> Result<(), Fail> {
+fn the_greatest_free_variable_of_the_inputs_becomes_false(rt: HostRuntime) -> Result<(), Fail> {
     let alloc = rt.alloc();
     let clauses = [clause(alloc, &rt, &[1, 2])?];
     let given = cube(alloc, &rt, &[4])?;
     let mut session = start(alloc, &rt, &clauses, &given)?;
-    has_model(&rt, &mut session, &given, &[true, false, false, true])
-}
-
-#[test]
-fn a_variable_is_decided_as_it_was_last(rt: HostRuntime) -> Result<(), Fail> {
-    let alloc = rt.alloc();
-    let clauses = [clause(alloc, &rt, &[1, 2])?];
-    let both = cube(alloc, &rt, &[1, 2])?;
-    let free = cube(alloc, &rt, &[])?;
-    let mut session = start(alloc, &rt, &clauses, &both)?;
-    has_model(&rt, &mut session, &both, &[true, true])?;
-    has_model(&rt, &mut session, &free, &[true, true])
-}
-
-// Counts learnt clauses up to a restart, which comes after so many.
-fn restart_after(rt: &impl Abort, restarts: &mut Restarts, learnt: u32) {
-    for _ in 1..learnt {
-        restarts.count_clause(1);
-        assert!(rt; !restarts.is_due());
-    }
-    restarts.count_clause(1);
-    assert!(rt; restarts.is_due());
-}
-
-// By glue a restart comes where the clauses learnt of late have more levels than those before.
-#[test]
-fn restarts_follow_the_number_of_levels(rt: HostRuntime) -> Result<(), Fail> {
-    let mut restarts = Restarts::new(true);
-    for _ in 0..1000 {
-        restarts.count_clause(4);
-        assert!(rt; !restarts.is_due());
-    }
-    let mut waited: u32 = 0;
-    while waited < 100 && !restarts.is_due() {
-        restarts.count_clause(8);
-        waited += 1;
-    }
-    assert!(rt; waited > 1);
-    assert!(rt; waited < 100);
-    Ok(())
-}
-
-#[test]
-fn restarts_follow_the_sequence(rt: HostRuntime) -> Result<(), Fail> {
-    let mut restarts = Restarts::new(false);
-    for learnt in [64, 64, 128, 64] {
-        restart_after(&rt, &mut restarts, learnt);
+    match session.solve(&given, 1)? {
+        Round::Model(model) => {
+            assert_eq!(rt; model.values(), [true, false, false, true].as_slice());
+        }
+        _ => panic!(rt; "no model"),
     }
     Ok(())
 }
@@ -501,52 +384,6 @@ fn a_cube_of_many_literals_is_walked_once(rt: HostRuntime) -> Result<(), Fail> {
             assert!(rt; model.values().iter().all(|value| *value));
         }
         _ => panic!(rt; "no model"),
-    }
-    Ok(())
-}
-
-// The clauses by which each pigeon sits in a hole and no two in the same, of one pigeon more than
-// there are holes. Pigeon p sits in hole h where variable `p * holes + h + 1` is true.
-fn many_pigeons(alloc: Global, rt: &impl Abort, holes: u32) -> Result<Vec<Clause>, AllocError>
-    requires { holes ≤ 100 }
-{
-    let mut clauses = Vec::new(alloc);
-    for pigeon in 0..holes + 1 {
-        let mut lits = Vec::new(alloc);
-        for hole in 0..holes {
-            lits.push(Lit::of((pigeon * holes + hole + 1) as i32).expect(rt, "a literal"))?;
-        }
-        clauses.push(Clause::from_lits(alloc, &lits)?)?;
-    }
-    for pigeon in 0..holes + 1 {
-        for other in 0..pigeon {
-            for hole in 0..holes {
-                let first = (pigeon * holes + hole + 1) as i32;
-                let second = (other * holes + hole + 1) as i32;
-                clauses.push(clause(alloc, rt, &[-first, -second])?)?;
-            }
-        }
-    }
-    Ok(clauses)
-}
-
-// So many clauses are learnt in one round that it restarts.
-fn refute_pigeons(rt: &impl Abort, alloc: Global, variant: u32) -> Result<(), Fail> {
-    let clauses = many_pigeons(alloc, rt, 5)?;
-    let free = cube(alloc, rt, &[])?;
-    let mut session = start_variant(alloc, rt, variant, clauses.as_slice(), &free)?;
-    match session.solve_until_answered(&free, 10_000)? {
-        Conclusion::Refuted(part, _) => assert_eq!(rt; part.lits().len(), 0),
-        _ => panic!(rt; "not refuted"),
-    }
-    assert!(rt; session.learnt().len() > 64);
-    Ok(())
-}
-
-#[test]
-fn a_round_restarts_and_goes_on(rt: HostRuntime) -> Result<(), Fail> {
-    for variant in 0..4 {
-        refute_pigeons(&rt, rt.alloc(), variant)?;
     }
     Ok(())
 }
