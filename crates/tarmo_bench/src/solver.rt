@@ -9,8 +9,7 @@
 //! - `decisions`: how often a level was opened, by an assumption or by a free variable;
 //! - `propagations`: how often a clause forced a literal.
 //!
-//! The search has no restarts but between rounds, it drops no clause, and one session shares none,
-//! so no line tells of that.
+//! The search drops no clause, and one session shares none, so no line tells of that.
 
 mod solving;
 #[cfg(test)]
