@@ -30,12 +30,13 @@ use Rattle.board_core.specs.State.{State}
 use Rattle.verdict_text.specs.Block.{IsBlock, IsPrintable, shown_of, shown_of_answer}
 use Rattle.verdict_text.specs.declared.blocks.Shown.{Shown}
 use Rattle.tarmo_run.specs.Block.{AreBlocks, IsBlockOf}
-use Rattle.tarmo_run.specs.Client.{AreWithinVariables, clauses_behind, clauses_on}
-use Rattle.tarmo_run.specs.Writer.{TookBlocks, TookFront}
+use Rattle.tarmo_run.specs.Variables.{AreWithinVariables}
+use Rattle.tarmo_run.specs.declared.writer.Due.{Due}
+use Rattle.tarmo_run.specs.declared.writer.Writer.{Writer}
+use Rattle.tarmo_run.specs.Writer.{HasCounted, IsDue, TookBlocks, TookFront}
 use Rattle.trace_text.specs.Text.{CiteEarlier}
 use Rattle.tarmo_run.proofs.Cited.{ok_cite_earlier}
-use Rattle.tarmo_run.proofs.Queries.{tagged_clauses}
-use Rattle.tarmo_run.proofs.Variables.{within_set}
+use Rattle.tarmo_run.proofs.Variables.{within_next, within_set}
 
 -- how many inputs the next job has
 pub inputs_counted : (journal : List Entry) (written job count : ℕ) (segment : Segment) →
@@ -71,45 +72,6 @@ inputs_few board job count legal counted =
     let some = filter_le (λ (input : Known). nat_le input.tag job) (inputs board.journal) in
     omega (arith, all, some, counted)
 
-filter_within : (p : Known → Bool) (knowns : List Known) →
-    greatest_of_all (map (λ (one : Known). one.clause) (filter p knowns))
-    ≤ greatest_of_all (map (λ (one : Known). one.clause) knowns)
-filter_within p [] = omega arith
-filter_within p (one ∷ knowns) = by (p one) (filter p knowns) (filter_within p knowns)
-  where
-    by : (b : Bool) (rest : List Known) →
-        greatest_of_all (map (λ (one : Known). one.clause) rest)
-        ≤ greatest_of_all (map (λ (one : Known). one.clause) knowns)
-        → greatest_of_all (map (λ (one : Known). one.clause) (cond b (one ∷ rest) rest))
-        ≤ max (greatest_of one.clause) (greatest_of_all (map (λ (one : Known). one.clause) knowns))
-    by true rest le = omega (arith, le)
-    by false rest le = omega (arith, le)
-
--- the clauses of all segments are those of all inputs
-all_clauses : (clauses : List (List ℕ)) (job : ℕ) (list : List Segment) →
-    clauses_behind clauses list ≡ clauses ++ map (λ (one : Known). one.clause)
-    (tagged_from job list)
-all_clauses clauses job [] = sym (append-nil clauses)
-all_clauses clauses job (segment ∷ list) =
-    all_clauses (clauses ++ segment.clauses) (suc job) list
-    ∙ append_assoc clauses segment.clauses
-    (map (λ (one : Known). one.clause) (tagged_from (suc job) list))
-    ∙ ap (λ (first : List (List ℕ)). clauses
-    ++ (first ++ map (λ (one : Known). one.clause) (tagged_from (suc job) list)))
-    (sym (tagged_clauses job segment.clauses))
-    ∙ ap (λ (all : List (List ℕ)). clauses ++ all)
-    (sym (map-append (λ (one : Known). one.clause)
-    (map (λ (clause : List ℕ). record { clause = clause; tag = job }) segment.clauses)
-    (tagged_from (suc job) list)))
-
--- the variables of each job are within the greatest one
-clauses_within : (board : State) (job : ℕ) → AreWithinVariables (clauses_on board) →
-    AreWithinVariables (clauses_of board.journal job)
-clauses_within board job within =
-    let all = all_clauses [] 1 (segments board.journal) in
-    let some = filter_within (λ (input : Known). nat_le input.tag job) (inputs board.journal) in
-    omega (arith, within, some, ap greatest_of_all all)
-
 printable_answer : (trace traces : Bool) (journal : List Entry) (job : ℕ) (given : Answer) →
     greatest_of_all (clauses_of journal job) ≤ 8388607 → IsLitSet (cube_of journal job) →
     IsRightAnswer traces journal job given
@@ -144,7 +106,7 @@ printable_verdict trace rules journal job verdict.Starved (verdict.Answered othe
 -- the block of a job's verdict can be printed
 pub block_printable : (trace : Bool) (board : State) (job count : ℕ) (copy : Verdict)
     (segment : Segment) → VerdictsHaveCauses → IsLegal board.rules board.journal →
-    AreWithinVariables (clauses_on board) → HasVerdict board job copy →
+    AreWithinVariables (clauses_of board.journal job) → HasVerdict board job copy →
     count ≡ length (inputs_of board.journal job) →
     item_at (segments board.journal) job ≡ Some segment → IsLitSet segment.cube →
     IsPrintable count (shown_of trace copy)
@@ -153,7 +115,7 @@ block_printable trace board job count copy segment law legal within has counted 
     let cause = law board.rules board.journal job has.given legal has.is in
     subst (λ n. IsPrintable n (shown_of trace copy)) (sym counted)
     (printable_verdict trace board.rules board.journal job has.given copy
-    (clauses_within board job within) (subst IsLitSet (sym cube) set) cause has.same)
+    within (subst IsLitSet (sym cube) set) cause has.same)
 
 same_shown : (trace : Bool) (given copy : Verdict) → IsSame given copy →
     shown_of trace copy ≡ shown_of trace given
@@ -187,6 +149,60 @@ block_right trace board job count copy text has counted block = record {
       counted
       (subst (λ (shown : Shown). IsBlock count (record { job = job; shown = shown }) text)
       (same_shown trace has.given copy has.same) block);
+}
+
+-- how many clauses the job has that is due
+pub due_counted : (writer : Writer) (board : State) (due : Due) → IsDue writer board due →
+    writer.inputs + length (arc_value due.segment).clauses
+    ≡ length (inputs_of board.journal due.job)
+due_counted writer board due is =
+    inputs_counted board.journal writer.written due.job writer.inputs (arc_value due.segment)
+    is.next is.added is.counted.inputs
+
+pub due_few : (writer : Writer) (board : State) (due : Due) → IsDue writer board due →
+    writer.inputs + length (arc_value due.segment).clauses ≤ 16777216
+due_few writer board due is =
+    inputs_few board due.job (writer.inputs + length (arc_value due.segment).clauses) is.legal
+    (due_counted writer board due is)
+
+due_within : (writer : Writer) (board : State) (due : Due) → IsDue writer board due →
+    AreWithinVariables (arc_value due.segment).clauses →
+    AreWithinVariables (clauses_of board.journal due.job)
+due_within writer board due is own =
+    within_next board.journal writer.written due.job (arc_value due.segment) is.next is.added
+    is.counted.within own
+
+-- its block can be printed
+pub due_printable : (trace : Bool) (writer : Writer) (board : State) (due : Due) →
+    VerdictsHaveCauses → IsDue writer board due →
+    AreWithinVariables (arc_value due.segment).clauses → IsLitSet (arc_value due.segment).cube →
+    IsPrintable (writer.inputs + length (arc_value due.segment).clauses)
+    (shown_of trace due.verdict)
+due_printable trace writer board due law is own set =
+    block_printable trace board due.job
+    (writer.inputs + length (arc_value due.segment).clauses) due.verdict (arc_value due.segment)
+    law is.legal (due_within writer board due is own) is.verdict (due_counted writer board due is)
+    is.added set
+
+-- and what is printed is its block
+pub due_right : (trace : Bool) (writer : Writer) (board : State) (due : Due) (text : List ℕ) →
+    IsDue writer board due →
+    IsBlock (writer.inputs + length (arc_value due.segment).clauses)
+    (record { job = due.job; shown = shown_of trace due.verdict }) text →
+    IsBlockOf trace board due.job text
+due_right trace writer board due text is block =
+    block_right trace board due.job (writer.inputs + length (arc_value due.segment).clauses)
+    due.verdict text is.verdict (due_counted writer board due is) block
+
+-- the job is counted once its block is written
+pub due_written : (old new : Writer) (board : State) (due : Due) → IsDue old board due →
+    AreWithinVariables (arc_value due.segment).clauses → new.written ≡ due.job →
+    new.inputs ≡ length (inputs_of board.journal due.job) → HasCounted new board
+due_written old new board due is own written inputs = record {
+  few = subst (λ n. n ≤ jobs board.journal) (sym written) is.verdict.there.added;
+  inputs = inputs ∙ ap (λ n. length (inputs_of board.journal n)) (sym written);
+  within = subst (λ n. AreWithinVariables (clauses_of board.journal n)) (sym written)
+      (due_within old board due is own);
 }
 
 -- one block more

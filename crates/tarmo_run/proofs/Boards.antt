@@ -8,7 +8,7 @@ use Rattle.entry_core.specs.declared.entries.Entry.{Entry}
 use Rattle.entry_core.specs.declared.entries.Event.{Event}
 use Rattle.entry_core.specs.declared.entries.Event.TheVariants as event
 use Rattle.entry_core.specs.declared.rules.Rules.{Rules}
-use Rattle.entry_core.specs.Journal.{jobs, segment_of, segments, inputs_of}
+use Rattle.entry_core.specs.Journal.{clauses_of, inputs_of, jobs, segment_of, segments}
 use Rattle.entry_core.specs.Law.{Keeps}
 use Rattle.entry_core.specs.Settled.{cancelled, cancelled_by, settled}
 use Rattle.entry_core.proofs.LongerJournals.{longer_journal_keeps, segments-append}
@@ -211,6 +211,10 @@ fits_longer bench old new longer fits =
 pub inputs_stay : (old new : State) (job : ℕ) → IsLonger old new → job ≤ jobs old.journal →
     inputs_of new.journal job ≡ inputs_of old.journal job
 inputs_stay old new job longer few = (keeps old new longer).inputs job few
+
+pub clauses_stay : (old new : State) (job : ℕ) → IsLonger old new → job ≤ jobs old.journal →
+    clauses_of new.journal job ≡ clauses_of old.journal job
+clauses_stay old new job longer few = (keeps old new longer).clauses job few
 
 pub more_jobs : (old new : State) → IsLonger old new → jobs old.journal ≤ jobs new.journal
 more_jobs old new longer = (keeps old new longer).more_jobs

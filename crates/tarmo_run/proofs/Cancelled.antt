@@ -20,7 +20,8 @@ use Rattle.board_core.proofs.Changes.{same_or_other}
 use Rattle.board_core.proofs.Readings.{settled_push}
 use Rattle.tarmo_run.specs.Growth.{HasNoJobMore, IsLonger}
 use Rattle.tarmo_run.specs.Output.{AreSettled}
-use Rattle.tarmo_run.proofs.Boards.{no_job_none, no_job_on, no_job_one, one_stays}
+use Rattle.tarmo_run.proofs.Boards.{longer_none, no_job_none, no_job_on, no_job_one}
+use Rattle.tarmo_run.proofs.Boards.{one_stays}
 
 some_else : (first second : Option Verdict) → IsSome second → IsSome (or_else first second)
 some_else None second some = some
@@ -88,6 +89,18 @@ settled_next old new job last longer before next now =
       where
         earlier : (other : ℕ) → 1 ≤ other → other ≤ job → other ≢ job → other ≤ last
         earlier other from to differs = grind (arith, nat_tests)
+
+-- one settled job more on the same board
+pub settled_more : (board : State) (job last : ℕ) → AreSettledTo board last → job ≡ last + 1 →
+    IsSome (settled board.rules board.journal job) → AreSettledTo board job
+settled_more board job last before next now =
+    settled_next board board job last (longer_none board) before next now
+
+-- each job is
+pub all_settled : (board : State) (last : ℕ) → AreSettledTo board last →
+    jobs board.journal ≤ last → AreSettled board
+all_settled board last before all job there =
+    before.each job there.from_one (omega (arith, there.added, all))
 
 -- one job more
 pub cancelled_one : (start old new : State) (result : Result Unit CancelFault) (job last : ℕ) →

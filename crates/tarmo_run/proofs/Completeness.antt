@@ -18,7 +18,7 @@ use Rattle.icnf_text.proofs.Fronts.{wrong_stays_at_end}
 use Rattle.tarmo_run.specs.declared.endings.Ending.{Ending}
 use Rattle.tarmo_run.specs.declared.endings.Ending.TheVariants.{Complete, Refused, Unread}
 use Rattle.tarmo_run.specs.declared.endings.Ending.TheVariants.{Exhausted}
-use Rattle.tarmo_run.specs.Asking.{rules_of}
+use Rattle.tarmo_run.specs.Asking.{rules_of, shared_rules_of}
 use Rattle.words.specs.Accepted.{Asked, Input, OfSum, OfText, input_of}
 use Rattle.words.specs.declared.command.Work.{Work}
 use Rattle.tarmo_run.specs.Block.{AreBlocks}
@@ -28,7 +28,7 @@ use Rattle.tarmo_run.specs.Output.{UnlessExhausted, WroteAll, WroteFront, ending
 use Rattle.tarmo_run.specs.Output.{is_starved, last_line_of, queries_in, status_of, unnumbered}
 
 -- what a source that is ended gave is all that it had
-all_given : (text bytes : List ℕ) (after : Option (List ℕ)) → Some text ≡ followed_by bytes after →
+pub all_given : (text bytes : List ℕ) (after : Option (List ℕ)) → Some text ≡ followed_by bytes after →
     IsEmptyWhereTold after → bytes ≡ text
 all_given text bytes None gave empty = cc
 all_given text bytes (Some rest) gave empty =
@@ -166,12 +166,23 @@ pub not_broken : (status before now : ℕ) → (status ≡ 4) ↔ (before < now)
     status ≡ 4 → ⊥
 not_broken status before now iff same broken = let rose = iff.0 broken in omega (arith, rose, same)
 
+same_rules_by : (rules : Asked → Rules) (found : Option Asked) (given : Rules)
+    (command : Asked) → option_map rules found ≡ Some given → found ≡ Some command →
+    given ≡ rules command
+same_rules_by rules found given command read is =
+    let both : Some (rules command) ≡ Some given = sym (ap (option_map rules) is) ∙ read in
+    sym (ap (λ (o : Option Rules). unwrap_or o given) both)
+
 -- the rules that were read are those of the words
 pub same_rules : (found : Option Asked) (given : Rules) (command : Asked) →
     option_map rules_of found ≡ Some given → found ≡ Some command → given ≡ rules_of command
-same_rules found given command read is =
-    let both : Some (rules_of command) ≡ Some given = sym (ap (option_map rules_of) is) ∙ read in
-    sym (ap (λ (o : Option Rules). unwrap_or o given) both)
+same_rules = same_rules_by rules_of
+
+-- and so are those of a run on many threads
+pub same_shared_rules : (found : Option Asked) (given : Rules) (command : Asked) →
+    option_map shared_rules_of found ≡ Some given → found ≡ Some command →
+    given ≡ shared_rules_of command
+same_shared_rules = same_rules_by shared_rules_of
 
 -- there is a board
 pub had_board : (found : Option State) (P : Type 0) (Q : State → Type 0) → MatchOption found ⊥ Q →

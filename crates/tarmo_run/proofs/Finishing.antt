@@ -6,13 +6,14 @@ use Rattle.std.proofs.lemmas.List.{take-append-le}
 use Rattle.std.proofs.Math.Seq.{take-append-add}
 use Rattle.run_io.specs.Bytes.{appended}
 use Rattle.run_io.proofs.Laws.{appended_nothing, appended_twice}
-use Rattle.entry_core.specs.Journal.{jobs}
+use Rattle.entry_core.specs.Journal.{jobs, segments}
 use Rattle.entry_core.specs.Legal.{IsLegal}
 use Rattle.entry_core.specs.Settled.{cancelled}
 use Rattle.entry_core.specs.declared.rules.Rules.{Rules}
 use Rattle.board_core.specs.State.{State}
 use Rattle.icnf_text.specs.Jobs.{Job}
 use Rattle.tarmo_run.specs.declared.desk.Desk.{Desk}
+use Rattle.tarmo_run.specs.declared.writer.Writer.{Writer}
 use Rattle.tarmo_run.specs.declared.endings.Ending.{Ending}
 use Rattle.tarmo_run.specs.declared.endings.Ending.TheVariants.{Complete, Refused, Unread}
 use Rattle.tarmo_run.specs.declared.endings.Ending.TheVariants.{Exhausted}
@@ -58,90 +59,157 @@ told_ends ending told reading (inl same) ends =
 told_ends ending told reading (inr memory) ends =
     subst (λ (e : Ending). IsEnding e reading) (sym memory) tt
 
-abbrev pub begun_still : (reading : Reading) (old new : State) → HasNoJobMore old new →
-    AsksFirst reading old → AsksFirst reading new
-begun_still reading old new more begun = record {
+-- what is asked is asked of a board with the same jobs
+abbrev pub begun_same : (reading : Reading) (old new : State) →
+    segments new.journal ≡ segments old.journal → AsksFirst reading old → AsksFirst reading new
+begun_same reading old new same begun = record {
   left = begun.left;
   queries = begun.queries ∙ ap (λ (jobs : List Job). jobs ++ begun.left)
-      (ap (queries_behind []) (sym more.segments));
+      (ap (queries_behind []) (sym same));
 }
 
+pub reads_same : (ending : Ending) (left_before left_after : Option (List ℕ))
+    (ended failed : Bool) (old new : State) → segments new.journal ≡ segments old.journal →
+    ReadsThrough ending left_before left_after ended failed old →
+    ReadsThrough ending left_before left_after ended failed new
+reads_same ending left_before left_after ended failed old new same reads = record {
+  bytes = reads.bytes;
+  gave = reads.gave;
+  through = record {
+    ends = reads.through.ends;
+    begun = begun_same (record { bytes = reads.bytes; ended = ended; failed = failed }) old new
+        same reads.through.begun;
+    all = reads.through.all;
+  };
+}
+
+abbrev pub begun_still : (reading : Reading) (old new : State) → HasNoJobMore old new →
+    AsksFirst reading old → AsksFirst reading new
+begun_still reading old new more begun = begun_same reading old new more.segments begun
+
 -- the blocks and a last line are an output
-output_of : (trace : Bool) (ending told : Ending) (reading : Reading) (old : Desk) (new : State)
-    (blocks : List ℕ) → IsThrough ending reading old → (told ≡ ending) ⊎ (told ≡ Exhausted) →
-    HasNoJobMore old.board new → old.writer.written ≤ jobs old.board.journal
-    → AreBlocks trace old.board old.writer.written blocks →
+output_of : (trace : Bool) (ending told : Ending) (reading : Reading) (writer : Writer)
+    (old new : State) (blocks : List ℕ) → IsThrough ending reading old →
+    UnlessExhausted ending (HasAllBlocks writer old) →
+    (told ≡ ending) ⊎ (told ≡ Exhausted) →
+    HasNoJobMore old new → writer.written ≤ jobs old.journal
+    → AreBlocks trace old writer.written blocks →
     IsOutput (OfBlocks trace) told reading new (blocks ++ last_line_of told)
-output_of trace ending told reading old new blocks through which more few are = record {
+output_of trace ending told reading writer old new blocks through done which more few are = record {
   ends = told_ends ending told reading which through.ends;
   lines = blocks;
   right = record {
-    count = old.writer.written;
-    few = subst (λ n. old.writer.written ≤ n) (ap length (sym more.segments)) few;
-    all = told_unless ending told (old.writer.written ≡ jobs new.journal) which
-        (unless ending ((through.begun.left ≡ []) × HasAllBlocks old.writer old.board)
-        (old.writer.written ≡ jobs new.journal) (λ done. done.1.written
-        ∙ ap length (sym more.segments)) through.all);
-    right = blocks_stay trace old.board new old.writer.written blocks more.longer few are;
+    count = writer.written;
+    few = subst (λ n. writer.written ≤ n) (ap length (sym more.segments)) few;
+    all = told_unless ending told (writer.written ≡ jobs new.journal) which
+        (unless ending (HasAllBlocks writer old) (writer.written ≡ jobs new.journal)
+        (λ done. done.written ∙ ap length (sym more.segments)) done);
+    right = blocks_stay trace old new writer.written blocks more.longer few are;
   };
   written = refl;
 }
 
+-- unless memory ran out, all queries are jobs, and each is settled
+both_unless : (ending : Ending) (left : List Job) (writer : Writer) (old new : State) →
+    HasNoJobMore old new → UnlessExhausted ending (left ≡ []) →
+    UnlessExhausted ending (HasAllBlocks writer old) →
+    UnlessExhausted ending ((left ≡ []) × AreSettled new)
+both_unless (Complete count) left writer old new more all done =
+    (all, settled_stay old new more done.settled)
+both_unless (Refused fault) left writer old new more all done =
+    (all, settled_stay old new more done.settled)
+both_unless Unread left writer old new more all done =
+    (all, settled_stay old new more done.settled)
+both_unless Exhausted left writer old new more all done = tt
+
 pub finished : (trace : Bool) (ending told : Ending) (left_before left_after : Option (List ℕ))
-    (ended failed : Bool) (old : Desk) (new : State) (before middle after : Option (List ℕ)) →
+    (ended failed : Bool) (writer : Writer) (old new : State)
+    (before middle after : Option (List ℕ)) →
     ReadsThrough ending left_before left_after ended failed old →
-    HasWritten trace old.writer old.board before middle →
-    old.writer.written ≤ jobs old.board.journal → HasNoJobMore old.board new →
+    UnlessExhausted ending (HasAllBlocks writer old) →
+    HasWritten trace writer old before middle →
+    writer.written ≤ jobs old.journal → HasNoJobMore old new →
     cancelled new.journal ≡ [] →
     (told ≡ ending) ⊎ (told ≡ Exhausted) → after ≡ appended middle (last_line_of told) →
     Finished trace told left_before left_after ended failed new before after
-finished trace ending told left_before left_after ended failed old new before middle after reads
-    took few more uncancelled which line =
+finished trace ending told left_before left_after ended failed writer old new before middle after
+    reads done took few more uncancelled which line =
     let reading : Reading = record { bytes = reads.bytes; ended = ended; failed = failed } in
     record {
       bytes = reads.bytes;
       gave = reads.gave;
       text = took.blocks ++ last_line_of told;
-      output = output_of trace ending told reading old new took.blocks reads.through which more few
-          took.right;
+      output = output_of trace ending told reading writer old new took.blocks reads.through done
+          which more few took.right;
       taken = line ∙ ap (λ taken. appended taken (last_line_of told)) took.taken
           ∙ appended_twice before took.blocks (last_line_of told);
-      begun = begun_still reading old.board new more reads.through.begun;
+      begun = begun_still reading old new more reads.through.begun;
       all = told_unless ending told ((reads.through.begun.left ≡ []) × AreSettled new) which
-          (unless ending ((reads.through.begun.left ≡ []) × HasAllBlocks old.writer old.board)
-          ((reads.through.begun.left ≡ []) × AreSettled new)
-          (λ done. (done.0, settled_stay old.board new more done.1.settled)) reads.through.all);
+          (both_unless ending reads.through.begun.left writer old new more reads.through.all done);
       none_cancelled = uncancelled;
     }
 
 pub finished_in_line : (trace : Bool) (ending : Ending) (left_before left_after : Option (List ℕ))
-    (ended failed : Bool) (old : Desk) (new : State) (before middle after : Option (List ℕ)) →
+    (ended failed : Bool) (writer : Writer) (old new : State)
+    (before middle after : Option (List ℕ)) →
     ReadsThrough ending left_before left_after ended failed old →
-    HasWritten trace old.writer old.board before middle →
-    old.writer.written ≤ jobs old.board.journal → HasNoJobMore old.board new →
+    UnlessExhausted ending (HasAllBlocks writer old) →
+    HasWritten trace writer old before middle →
+    writer.written ≤ jobs old.journal → HasNoJobMore old new →
     TookFrontOfLine ending middle after →
     FinishedInPart trace left_before left_after ended failed new before after
-finished_in_line trace ending left_before left_after ended failed old new before middle after reads
-    took few more front =
+finished_in_line trace ending left_before left_after ended failed writer old new before middle
+    after reads done took few more front =
     let reading : Reading = record { bytes = reads.bytes; ended = ended; failed = failed } in
     record {
       bytes = reads.bytes;
       gave = reads.gave;
       ending = front.told;
       text = took.blocks ++ last_line_of front.told;
-      output = output_of trace ending front.told reading old new took.blocks reads.through
-          front.which more few took.right;
+      output = output_of trace ending front.told reading writer old new took.blocks reads.through
+          done front.which more few took.right;
       size = length took.blocks + front.size;
       taken = front.taken ∙ ap (λ taken. appended taken (take front.size (last_line_of front.told)))
           took.taken
           ∙ appended_twice before took.blocks (take front.size (last_line_of front.told))
           ∙ ap (appended before)
           (sym (take-append-add took.blocks (last_line_of front.told) front.size));
-      begun = begun_still reading old.board new more reads.through.begun;
+      begun = begun_still reading old new more reads.through.begun;
       all = told_unless ending front.told (reads.through.begun.left ≡ []) front.which
-          (unless ending ((reads.through.begun.left ≡ []) × HasAllBlocks old.writer old.board)
-          (reads.through.begun.left ≡ []) (λ done. done.0) reads.through.all);
+          reads.through.all;
     }
+
+-- a run that was read so may end for want of memory
+pub reads_told : (ending told : Ending) (left_before left_after : Option (List ℕ))
+    (ended failed : Bool) (board : State) → (told ≡ ending) ⊎ (told ≡ Exhausted) →
+    ReadsThrough ending left_before left_after ended failed board →
+    ReadsThrough told left_before left_after ended failed board
+reads_told ending told left_before left_after ended failed board (inl same) reads =
+    subst (λ (e : Ending). ReadsThrough e left_before left_after ended failed board) (sym same)
+    reads
+reads_told ending told left_before left_after ended failed board (inr memory) reads =
+    subst (λ (e : Ending). ReadsThrough e left_before left_after ended failed board) (sym memory)
+    (record {
+      bytes = reads.bytes;
+      gave = reads.gave;
+      through = record { ends = tt; begun = reads.through.begun; all = tt };
+    })
+
+-- or be broken off
+pub reads_in_part : (ending : Ending) (left_before left_after : Option (List ℕ))
+    (ended failed : Bool) (board : State) →
+    ReadsThrough ending left_before left_after ended failed board →
+    ReadsInPart left_before left_after ended failed board
+reads_in_part ending left_before left_after ended failed board reads =
+    record { bytes = reads.bytes; gave = reads.gave; begun = reads.through.begun }
+
+-- where each job is settled, each has its block
+pub answered_if : (ending : Ending) (writer : Writer) (board : State) →
+    (AreSettled board → writer.written ≡ jobs board.journal) →
+    UnlessExhausted ending (AreSettled board) →
+    UnlessExhausted ending (HasAllBlocks writer board)
+answered_if ending writer board all = unless ending (AreSettled board)
+    (HasAllBlocks writer board) (λ settled. record { settled = settled; written = all settled })
 
 pub finished_in_blocks : (trace : Bool) (left_before left_after : Option (List ℕ))
     (ended failed : Bool) (board : State) (before after : Option (List ℕ)) →

@@ -1,4 +1,5 @@
 mod Adding
+mod Agreeing
 mod Blocks
 mod Boards
 mod Cancelled
@@ -7,7 +8,9 @@ mod Closed
 mod Completeness
 mod Desks
 mod Finishing
+mod Gathering
 mod Growing
+mod Passing
 mod Queries
 mod Reached
 mod Results

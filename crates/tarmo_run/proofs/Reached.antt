@@ -22,18 +22,16 @@ use Rattle.board_core.specs.State.{State}
 use Rattle.icnf_text.proofs.Fronts.{all_counted, ended_statements, last_statements}
 use Rattle.icnf_text.proofs.Fronts.{longer_statements, more_statements, nothing_stated}
 use Rattle.icnf_text.proofs.Fronts.{nothing_wrong}
-use Rattle.tarmo_run.specs.declared.desk.Desk.{Desk}
 use Rattle.tarmo_run.specs.declared.endings.Ending.{Ending}
 use Rattle.tarmo_run.specs.declared.endings.Ending.TheVariants.{Complete, Refused, Unread}
 use Rattle.tarmo_run.specs.declared.endings.Ending.TheVariants.{Exhausted}
 use Rattle.tarmo_run.specs.declared.writer.Writer.{Writer}
 use Rattle.tarmo_run.specs.Client.{Adds, AddsFirst, clauses_behind, clauses_read, queries_behind}
 use Rattle.tarmo_run.specs.Client.{queries_on}
-use Rattle.tarmo_run.specs.Desk.{Answers, IsFresh}
 use Rattle.tarmo_run.specs.Growth.{IsLonger}
 use Rattle.tarmo_run.specs.Output.{queries_in, unnumbered}
-use Rattle.tarmo_run.specs.Reading.{AsksFirst, IsCaughtUp, IsThrough, ReadsInPart, ReadsThrough}
-use Rattle.tarmo_run.specs.Reading.{StopsBy}
+use Rattle.tarmo_run.specs.Reading.{AsksFirst, IsCaughtUp, IsNew, IsThrough, Progress}
+use Rattle.tarmo_run.specs.Reading.{ReadsInPart, ReadsThrough, StopsBy}
 use Rattle.tarmo_run.specs.Block.{AreBlocks}
 use Rattle.tarmo_run.specs.Writer.{HasWritten}
 use Rattle.tarmo_run.proofs.Boards.{blocks_stay}
@@ -53,7 +51,7 @@ written_still trace writer writer' old new before now more same few took = recor
 }
 
 -- statements and then more of them, and their queries
-pub asked_in_full : (old new : Desk) (first list all : List Numbered) → first ++ list ≡ all →
+pub asked_in_full : (old new : Progress) (first list all : List Numbered) → first ++ list ≡ all →
     queries_on old.board ≡ jobs_of (unnumbered first) →
     clauses_read old.client old.board ≡ clauses_stated (unnumbered first) →
     Adds old.client old.board new.client new.board list
@@ -71,7 +69,7 @@ asked_in_full old new first list all whole queries clauses adds = (
       ∙ ap (λ (list : List Numbered). clauses_stated (unnumbered list)) whole,
 )
 
-pub begun_by : (old new : Desk) (first list all : List Numbered) → first ++ list ≡ all →
+pub begun_by : (old new : Progress) (first list all : List Numbered) → first ++ list ≡ all →
     queries_on old.board ≡ jobs_of (unnumbered first) →
     clauses_read old.client old.board ≡ clauses_stated (unnumbered first) →
     (added : AddsFirst old.client old.board new.board list)
@@ -89,18 +87,18 @@ no_more : (queries jobs : List Job) → jobs ≡ queries → queries ≡ jobs ++
 no_more queries jobs same = sym same ∙ sym (append-nil jobs)
 
 -- the run stops behind these statements
-through_stop : (ending : Ending) (reader : ReaderState) (old new : Desk) (bytes whole : List ℕ)
+through_stop : (ending : Ending) (reader : ReaderState) (old new : Progress) (bytes whole : List ℕ)
     (ended failed : Bool) (list : List Numbered) (fault : Option Fault) → failed ≡ false →
     IsCaughtUp reader old bytes
     → statements bytes false ++ list ≡ statements whole ended → fault ≡ wrong whole ended →
     StopsBy ending fault old new list →
-    IsThrough ending (record { bytes = whole; ended = ended; failed = failed }) new
+    IsThrough ending (record { bytes = whole; ended = ended; failed = failed }) new.board
 through_stop (Complete count) reader old new bytes whole ended failed list fault unfailing up given
     is stop = absurd stop
 through_stop (Refused found) reader old new bytes whole ended failed list fault unfailing up given
     is stop =
     let all = asked_in_full old new (statements bytes false) list (statements whole ended) given
-    up.queries up.clauses stop.1.adds in
+    up.queries up.clauses stop.1 in
     record {
       ends = (unfailing, sym is ∙ stop.0);
       begun = record {
@@ -108,7 +106,7 @@ through_stop (Refused found) reader old new bytes whole ended failed list fault 
         queries = no_more (queries_in whole ended)
             (queries_on new.board) all.0;
       };
-      all = (refl, stop.1.done);
+      all = refl;
     }
 through_stop Unread reader old new bytes whole ended failed list fault unfailing up given is stop =
     absurd stop
@@ -123,27 +121,26 @@ through_stop Exhausted reader old new bytes whole ended failed list fault unfail
       all = tt;
     }
 
-piece_stop : (stop : Option Ending) (reader after : ReaderState) (old new : Desk)
+pub piece_stop : (stop : Option Ending) (reader after : ReaderState) (old new : Progress)
     (bytes piece : List ℕ) (failed : Bool) (list : List Numbered) (fault : Option Fault) →
     failed ≡ false → IsCaughtUp reader old bytes
     → HasRead after (bytes ++ piece) →
     statements bytes false ++ list ≡ statements (bytes ++ piece) false →
     fault ≡ wrong (bytes ++ piece) false
-    → MatchOption stop ((fault ≡ None) × Answers old new list)
+    → MatchOption stop ((fault ≡ None) × Adds old.client old.board new.client new.board list)
     (λ ending. StopsBy ending fault old new list)
     → MatchOption stop (IsCaughtUp after new (bytes ++ piece))
     (λ ending. IsThrough ending (record { bytes = bytes ++ piece; ended = false; failed = failed })
-    new)
+    new.board)
 piece_stop None reader after old new bytes piece failed list fault unfailing up read given is stop =
     let all = asked_in_full old new (statements bytes false) list
-    (statements (bytes ++ piece) false) given up.queries up.clauses stop.1.adds in
+    (statements (bytes ++ piece) false) given up.queries up.clauses stop.1 in
     record {
       read = read;
       right = sym is
           ∙ stop.0;
       queries = all.0;
       clauses = all.1;
-      done = stop.1.done;
     }
 piece_stop (Some ending) reader after old new bytes piece failed list fault unfailing up read given
     is stop =
@@ -152,25 +149,25 @@ piece_stop (Some ending) reader after old new bytes piece failed list fault unfa
 
 -- what has come of a piece
 pub piece_through : (result : Result (Option Ending) Failed) (reader after : ReaderState)
-    (old new : Desk) (piece : List ℕ) (list : List Numbered) (fault : Option Fault) →
+    (old new : Progress) (piece : List ℕ) (list : List Numbered) (fault : Option Fault) →
     ((text : List ℕ) → HasRead reader text → HasRead after (text ++ piece)) →
     ((text : List ℕ) → HasRead reader text →
     statements text false ++ list ≡ statements (text ++ piece) false) →
     ((text : List ℕ) → HasRead reader text → fault ≡ wrong (text ++ piece) false) →
-    IfOk result (λ stop. MatchOption stop ((fault ≡ None) × Answers old new list)
+    IfOk result (λ stop. MatchOption stop ((fault ≡ None) × Adds old.client old.board new.client new.board list)
     (λ ending. StopsBy ending fault old new list)) →
     IfOk result (λ stop. (bytes : List ℕ) (failed : Bool) → failed ≡ false →
     IsCaughtUp reader old bytes →
     MatchOption stop (IsCaughtUp after new (bytes ++ piece))
     (λ ending. IsThrough ending (record { bytes = bytes ++ piece; ended = false; failed = failed })
-    new))
+    new.board))
 piece_through (Ok stop) reader after old new piece list fault read given is stops =
     λ bytes failed unfailing up.
     piece_stop stop reader after old new bytes piece failed list fault unfailing up
     (read bytes up.read) (given bytes up.read) (is bytes up.read) stops
 piece_through (Err e) reader after old new piece list fault read given is stops = tt
 
-pub piece_in_part : (result : Result (Option Ending) Failed) (reader : ReaderState) (old new : Desk)
+pub piece_in_part : (result : Result (Option Ending) Failed) (reader : ReaderState) (old new : Progress)
     (piece : List ℕ) (list : List Numbered) →
     ((text : List ℕ) → HasRead reader text →
     statements text false ++ list ≡ statements (text ++ piece) false) →
@@ -186,11 +183,11 @@ piece_in_part (Err e) reader old new piece list given first = λ bytes failed up
     }
 
 -- more statements that weren't looked at
-begun_before : (reader : ReaderState) (desk : Desk) (bytes whole : List ℕ) (ended failed : Bool)
+begun_before : (reader : ReaderState) (progress : Progress) (bytes whole : List ℕ) (ended failed : Bool)
     (more : List Numbered) → statements whole ended ≡ statements bytes false ++ more →
-    IsCaughtUp reader desk bytes →
-    AsksFirst (record { bytes = whole; ended = ended; failed = failed }) desk.board
-begun_before reader desk bytes whole ended failed more is up = record {
+    IsCaughtUp reader progress bytes →
+    AsksFirst (record { bytes = whole; ended = ended; failed = failed }) progress.board
+begun_before reader progress bytes whole ended failed more is up = record {
   left = jobs_after (clauses_stated (unnumbered (statements bytes false))) (unnumbered more);
   queries = ap (λ (list : List Numbered). jobs_of (unnumbered list)) is
       ∙ more_jobs [] (statements bytes false) more
@@ -200,52 +197,52 @@ begun_before reader desk bytes whole ended failed more is up = record {
 }
 
 -- memory ran out while a piece was read
-pub through_before_piece : (reader : ReaderState) (desk : Desk) (bytes piece : List ℕ)
-    (failed : Bool) → IsCaughtUp reader desk bytes →
-    IsThrough Exhausted (record { bytes = bytes ++ piece; ended = false; failed = failed }) desk
-through_before_piece reader desk bytes piece failed up =
+pub through_before_piece : (reader : ReaderState) (progress : Progress) (bytes piece : List ℕ)
+    (failed : Bool) → IsCaughtUp reader progress bytes →
+    IsThrough Exhausted (record { bytes = bytes ++ piece; ended = false; failed = failed }) progress.board
+through_before_piece reader progress bytes piece failed up =
     record {
       ends = tt;
-      begun = begun_before reader desk bytes (bytes ++ piece) false failed
+      begun = begun_before reader progress bytes (bytes ++ piece) false failed
           (more_statements bytes piece) (longer_statements bytes piece) up;
       all = tt;
     }
 
 -- memory ran out at the end
-pub through_before_end : (reader : ReaderState) (desk : Desk) (bytes : List ℕ) (failed : Bool) →
-    IsCaughtUp reader desk bytes →
-    IsThrough Exhausted (record { bytes = bytes; ended = true; failed = failed }) desk
-through_before_end reader desk bytes failed up =
+pub through_before_end : (reader : ReaderState) (progress : Progress) (bytes : List ℕ) (failed : Bool) →
+    IsCaughtUp reader progress bytes →
+    IsThrough Exhausted (record { bytes = bytes; ended = true; failed = failed }) progress.board
+through_before_end reader progress bytes failed up =
     record {
       ends = tt;
-      begun = begun_before reader desk bytes bytes true failed
+      begun = begun_before reader progress bytes bytes true failed
           (last_statements bytes) (ended_statements bytes) up;
       all = tt;
     }
 
 -- the text ended behind what was read last
-pub through_end : (ending : Ending) (reader : ReaderState) (old new : Desk) (list : List Numbered)
+pub through_end : (ending : Ending) (reader : ReaderState) (old new : Progress) (list : List Numbered)
     (fault : Option Fault) (bytes : List ℕ) (failed : Bool) → failed ≡ false →
     IsCaughtUp reader old bytes →
     ((text : List ℕ) → HasRead reader text → statements text false ++ list ≡ statements text true) →
     ((text : List ℕ) → HasRead reader text → fault ≡ wrong text true) →
     StopsBy ending fault old new list →
-    IsThrough ending (record { bytes = bytes; ended = true; failed = failed }) new
+    IsThrough ending (record { bytes = bytes; ended = true; failed = failed }) new.board
 through_end ending reader old new list fault bytes failed unfailing up given is stop =
     through_stop ending reader old new bytes bytes true failed list fault unfailing up
     (given bytes up.read) (is bytes up.read) stop
 
-pub through_complete : (reader : ReaderState) (old new : Desk) (count : ℕ) (list : List Numbered)
+pub through_complete : (reader : ReaderState) (old new : Progress) (count : ℕ) (list : List Numbered)
     (fault : Option Fault) (bytes : List ℕ) (failed : Bool) → failed ≡ false →
     IsCaughtUp reader old bytes →
     ((text : List ℕ) → HasRead reader text → statements text false ++ list ≡ statements text true) →
     ((text : List ℕ) → HasRead reader text → fault ≡ wrong text true) →
-    fault ≡ None → Answers old new list → count ≡ jobs new.board.journal →
-    IsThrough (Complete count) (record { bytes = bytes; ended = true; failed = failed }) new
+    fault ≡ None → Adds old.client old.board new.client new.board list → count ≡ jobs new.board.journal →
+    IsThrough (Complete count) (record { bytes = bytes; ended = true; failed = failed }) new.board
 through_complete reader old new count list fault bytes failed unfailing up given is none answers
     counted =
     let all = asked_in_full old new (statements bytes false) list (statements bytes true)
-    (given bytes up.read) up.queries up.clauses answers.adds in
+    (given bytes up.read) up.queries up.clauses answers in
     record {
       ends = (
         unfailing,
@@ -259,10 +256,10 @@ through_complete reader old new count list fault bytes failed unfailing up given
         queries = no_more (queries_in bytes true)
             (queries_on new.board) all.0;
       };
-      all = (refl, answers.done);
+      all = refl;
     }
 
-pub end_in_part : (reader : ReaderState) (old new : Desk) (list : List Numbered) (bytes : List ℕ)
+pub end_in_part : (reader : ReaderState) (old new : Progress) (list : List Numbered) (bytes : List ℕ)
     (failed : Bool) → ((text : List ℕ) → HasRead reader text →
     statements text false ++ list ≡ statements text true) →
     AddsFirst old.client old.board new.board list
@@ -276,43 +273,38 @@ end_in_part reader old new list bytes failed given first up =
     }
 
 -- how far a run has come in its text
-pub record Reached (reader : ReaderState) (desk : Desk)
+pub record Reached (reader : ReaderState) (progress : Progress)
     (left_before left_now : Option (List ℕ)) : Type 0 where
   pub bytes : List ℕ
   pub gave : left_before ≡ followed_by bytes left_now
-  pub up : IsCaughtUp reader desk bytes
+  pub up : IsCaughtUp reader progress bytes
 
-caught_none : (reader : ReaderState) (desk : Desk) → HasRead reader [] → IsFresh desk →
-    IsCaughtUp reader desk []
-caught_none reader desk read fresh = record {
+caught_none : (reader : ReaderState) (progress : Progress) → HasRead reader [] → IsNew progress →
+    IsCaughtUp reader progress []
+caught_none reader progress read fresh = record {
   read = read;
   right = nothing_wrong;
   queries = ap (λ (journal : List Entry). queries_behind [] (segments journal)) fresh.journal
       ∙ ap (λ (list : List Numbered). jobs_of (unnumbered list)) (sym nothing_stated);
   clauses = ap (λ (journal : List Entry). clauses_behind [] (segments journal)
-      ++ desk.client.pending.items) fresh.journal ∙ fresh.pending
+      ++ progress.client.pending.items) fresh.journal ∙ fresh.pending
       ∙ ap (λ (list : List Numbered). clauses_stated (unnumbered list)) (sym nothing_stated);
-  done = record {
-    settled = λ job there. absurd
-        (omega (arith, there.from_one, there.added, ap jobs fresh.journal));
-    written = fresh.written ∙ ap jobs (sym fresh.journal);
-  };
 }
 
-pub nothing_reached : (reader : ReaderState) (desk : Desk) (left : Option (List ℕ)) →
-    HasRead reader [] → IsFresh desk → Reached reader desk left left
-nothing_reached reader desk left read fresh =
+pub nothing_reached : (reader : ReaderState) (progress : Progress) (left : Option (List ℕ)) →
+    HasRead reader [] → IsNew progress → Reached reader progress left left
+nothing_reached reader progress left read fresh =
     record {
       bytes = [];
       gave = sym (followed_by_nothing left);
-      up = caught_none reader desk read fresh;
+      up = caught_none reader progress read fresh;
     }
 
 -- the source failed before anything was read
-pub through_unstarted : (desk : Desk) (left_before left_after : Option (List ℕ))
+pub through_unstarted : (progress : Progress) (left_before left_after : Option (List ℕ))
     (ended failed : Bool) → left_after ≡ left_before → ended ≡ false → failed ≡ true →
-    IsFresh desk → ReadsThrough Unread left_before left_after ended failed desk
-through_unstarted desk left_before left_after ended failed same unended failing fresh = record {
+    IsNew progress → ReadsThrough Unread left_before left_after ended failed progress.board
+through_unstarted progress left_before left_after ended failed same unended failing fresh = record {
   bytes = [];
   gave = sym same ∙ sym (followed_by_nothing left_after);
   through = rw unended (record {
@@ -323,25 +315,17 @@ through_unstarted desk left_before left_after ended failed same unended failing 
           nothing_stated ∙ ap (λ (journal : List Entry). queries_behind [] (segments journal) ++ [])
           (sym fresh.journal);
     };
-    all = (
-      refl,
-      record {
-        settled = λ job there. absurd
-            (omega (arith, there.from_one, there.added, ap jobs fresh.journal));
-        written =
-            fresh.written ∙ ap jobs (sym fresh.journal);
-      },
-    );
+    all = refl;
   });
 }
 
 -- the source failed behind what was read
-pub through_unread : (reader : ReaderState) (desk : Desk)
+pub through_unread : (reader : ReaderState) (progress : Progress)
     (left_before left_now left_after : Option (List ℕ)) (ended failed : Bool) →
     left_after ≡ left_now → ended ≡ false → failed ≡ true →
-    Reached reader desk left_before left_now →
-    ReadsThrough Unread left_before left_after ended failed desk
-through_unread reader desk left_before left_now left_after ended failed same unended failing
+    Reached reader progress left_before left_now →
+    ReadsThrough Unread left_before left_after ended failed progress.board
+through_unread reader progress left_before left_now left_after ended failed same unended failing
     reached = record {
       bytes = reached.bytes;
       gave = reached.gave ∙ ap (followed_by reached.bytes) (sym same);
@@ -350,9 +334,9 @@ through_unread reader desk left_before left_now left_after ended failed same une
         begun = record {
           left = [];
           queries = no_more (queries_in reached.bytes false)
-              (queries_on desk.board) reached.up.queries;
+              (queries_on progress.board) reached.up.queries;
         };
-        all = (refl, reached.up.done);
+        all = refl;
       });
     }
 
@@ -399,7 +383,23 @@ rest_gave count buffer bytes left_before left_middle left_after none gave reache
     reached ∙ ap (followed_by bytes) (gave ∙ ap (λ n. followed_by (take n buffer) left_after) none
     ∙ followed_by_nothing left_after)
 
-pub rest_through : (result : Result Ending Failed) (reader : ReaderState) (old new : Desk)
+pub rest_reads : (ending : Ending) (reader : ReaderState) (old : Progress) (new : State)
+    (count : ℕ) (buffer : List ℕ) (left_before left_middle left_after : Option (List ℕ))
+    (ended failed : Bool) → ended ≡ true → failed ≡ false → count ≡ 0 →
+    left_middle ≡ followed_by (take count buffer) left_after →
+    Reached reader old left_before left_middle →
+    ((bytes : List ℕ) (failed : Bool) → failed ≡ false → IsCaughtUp reader old bytes →
+    IsThrough ending (record { bytes = bytes; ended = true; failed = failed }) new) →
+    ReadsThrough ending left_before left_after ended failed new
+rest_reads ending reader old new count buffer left_before left_middle left_after ended failed end
+    unfailed none gave reached through = record {
+      bytes = reached.bytes;
+      gave = rest_gave count buffer reached.bytes left_before left_middle left_after none gave
+          reached.gave;
+      through = rw end (through reached.bytes failed unfailed reached.up);
+    }
+
+pub rest_through : (result : Result Ending Failed) (reader : ReaderState) (old new : Progress)
     (count : ℕ) (buffer : List ℕ) (left_before left_middle left_after : Option (List ℕ))
     (ended failed : Bool) →
     ended ≡ true → failed ≡ false → count ≡ 0 →
@@ -407,19 +407,16 @@ pub rest_through : (result : Result Ending Failed) (reader : ReaderState) (old n
     Reached reader old left_before left_middle →
     IfOk result (λ ending. (bytes : List ℕ) (failed : Bool) → failed ≡ false →
     IsCaughtUp reader old bytes →
-    IsThrough ending (record { bytes = bytes; ended = true; failed = failed }) new) →
-    IfOk result (λ ending. ReadsThrough ending left_before left_after ended failed new)
+    IsThrough ending (record { bytes = bytes; ended = true; failed = failed }) new.board) →
+    IfOk result (λ ending. ReadsThrough ending left_before left_after ended failed new.board)
 rest_through (Ok ending) reader old new count buffer left_before left_middle left_after ended failed
-    end unfailed none gave reached through = record {
-      bytes = reached.bytes;
-      gave = rest_gave count buffer reached.bytes left_before left_middle left_after none gave
-          reached.gave;
-      through = rw end (through reached.bytes failed unfailed reached.up);
-    }
+    end unfailed none gave reached through =
+    rest_reads ending reader old new.board count buffer left_before left_middle left_after ended
+    failed end unfailed none gave reached through
 rest_through (Err e) reader old new count buffer left_before left_middle left_after ended failed end
     unfailed none gave reached through = tt
 
-pub rest_in_part : (result : Result Ending Failed) (reader : ReaderState) (old new : Desk)
+pub rest_in_part : (result : Result Ending Failed) (reader : ReaderState) (old new : Progress)
     (count : ℕ) (buffer : List ℕ) (left_before left_middle left_after : Option (List ℕ))
     (ended failed : Bool) →
     ended ≡ true → count ≡ 0 → left_middle ≡ followed_by (take count buffer) left_after →
@@ -437,7 +434,7 @@ rest_in_part (Err e) reader old new count buffer left_before left_middle left_af
       begun = rw end (begun reached.bytes failed reached.up);
     }
 
-pub piece_broke : (reader : ReaderState) (old new : Desk) (piece : List ℕ)
+pub piece_broke : (reader : ReaderState) (old new : Progress) (piece : List ℕ)
     (left_before left_middle left_after : Option (List ℕ)) (ended failed : Bool) →
     ended ≡ false → left_middle ≡ followed_by piece left_after →
     Reached reader old left_before left_middle →
@@ -451,13 +448,13 @@ piece_broke reader old new piece left_before left_middle left_after ended failed
       begun = rw unended (begun reached.bytes failed reached.up);
     }
 
-pub piece_ended : (ending : Ending) (reader : ReaderState) (old new : Desk) (piece : List ℕ)
+pub piece_ended : (ending : Ending) (reader : ReaderState) (old new : Progress) (piece : List ℕ)
     (left_before left_middle left_after : Option (List ℕ)) (ended failed : Bool) →
     ended ≡ false → failed ≡ false → left_middle ≡ followed_by piece left_after →
     Reached reader old left_before left_middle →
     ((bytes : List ℕ) (failed : Bool) → failed ≡ false → IsCaughtUp reader old bytes →
-    IsThrough ending (record { bytes = bytes ++ piece; ended = false; failed = failed }) new) →
-    ReadsThrough ending left_before left_after ended failed new
+    IsThrough ending (record { bytes = bytes ++ piece; ended = false; failed = failed }) new.board) →
+    ReadsThrough ending left_before left_after ended failed new.board
 piece_ended ending reader old new piece left_before left_middle left_after ended failed unended
     unfailed gave reached through = record {
       bytes = reached.bytes ++ piece;
@@ -466,7 +463,7 @@ piece_ended ending reader old new piece left_before left_middle left_after ended
     }
 
 -- the run goes on behind a piece
-pub piece_reached : (reader after : ReaderState) (old new : Desk) (piece : List ℕ)
+pub piece_reached : (reader after : ReaderState) (old new : Progress) (piece : List ℕ)
     (left_before left_middle left_after : Option (List ℕ)) →
     left_middle ≡ followed_by piece left_after → Reached reader old left_before left_middle →
     ((bytes : List ℕ) (failed : Bool) → failed ≡ false → IsCaughtUp reader old bytes →
@@ -479,7 +476,7 @@ piece_reached reader after old new piece left_before left_middle left_after gave
     }
 
 -- each piece brings the text nearer to the most bytes that it may have
-pub nearer : (reader after : ReaderState) (old new : Desk) (count : ℕ) (buffer : List ℕ)
+pub nearer : (reader after : ReaderState) (old new : Progress) (count : ℕ) (buffer : List ℕ)
     (left_before left_middle : Option (List ℕ)) → Reached reader old left_before left_middle →
     ((bytes : List ℕ) (failed : Bool) → failed ≡ false → IsCaughtUp reader old bytes →
     IsCaughtUp after new (bytes ++ take count buffer)) →
@@ -503,9 +500,9 @@ nearer reader after old new count buffer left_before left_middle reached next so
     by n some = grind (arith, nat_tests)
 
 -- memory ran out before anything was read
-pub through_unbuffered : (desk : Desk) (left : Option (List ℕ)) (ended failed : Bool) →
-    ended ≡ false → IsFresh desk → ReadsThrough Exhausted left left ended failed desk
-through_unbuffered desk left ended failed unended fresh = record {
+pub through_unbuffered : (progress : Progress) (left : Option (List ℕ)) (ended failed : Bool) →
+    ended ≡ false → IsNew progress → ReadsThrough Exhausted left left ended failed progress.board
+through_unbuffered progress left ended failed unended fresh = record {
   bytes = [];
   gave = sym (followed_by_nothing left);
   through = rw unended (record {

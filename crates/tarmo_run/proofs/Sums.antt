@@ -20,22 +20,20 @@ use Rattle.icnf_text.specs.Jobs.{jobs_of}
 use Rattle.icnf_text.specs.Printed.{printed}
 use Rattle.icnf_text.proofs.Fronts.{nothing_stated}
 use Rattle.icnf_gen.specs.Drawn.{generated}
-use Rattle.tarmo_run.specs.declared.desk.Desk.{Desk}
 use Rattle.tarmo_run.specs.declared.endings.Ending.{Ending}
 use Rattle.tarmo_run.specs.declared.endings.Ending.TheVariants.{Complete, Exhausted, Refused, Unread}
 use Rattle.tarmo_run.specs.Body.{OfSummary, summary_of}
 use Rattle.tarmo_run.specs.Client.{Adds, AddsFirst, clauses_behind, clauses_read, queries_behind}
 use Rattle.tarmo_run.specs.Client.{queries_on}
-use Rattle.tarmo_run.specs.Desk.{IsFresh}
 use Rattle.tarmo_run.specs.Ended.{EndsSum, TookFrontOfLine, TookFrontOfSummary}
 use Rattle.tarmo_run.specs.Ended.{TookSummary}
 use Rattle.tarmo_run.specs.Growth.{HasNoJobMore, IsLonger}
 use Rattle.tarmo_run.specs.Output.{AreSettled, IsEnding, IsFirstOfSummary, IsOutput, IsSum}
 use Rattle.tarmo_run.specs.Output.{UnlessExhausted, last_line_of, queries_in, reading_of, status_of}
 use Rattle.tarmo_run.specs.Output.{is_one_so, is_starved, is_undecided, unnumbered}
-use Rattle.tarmo_run.specs.Reading.{AsksFirst}
+use Rattle.tarmo_run.specs.Reading.{AsksFirst, IsNew, Progress, ReadsSum}
 use Rattle.tarmo_run.proofs.Boards.{settled_stay}
-use Rattle.tarmo_run.proofs.Finishing.{begun_still, put_first}
+use Rattle.tarmo_run.proofs.Finishing.{begun_same, begun_still, put_first}
 use Rattle.tarmo_run.proofs.Queries.{as_many}
 use Rattle.tarmo_run.proofs.Reached.{asked_in_full, begun_by}
 use Rattle.tarmo_run.proofs.Statements.{more_jobs}
@@ -44,18 +42,18 @@ use Rattle.tarmo_run.proofs.Summaries.{summary_stays}
 -- ---- the jobs of the text
 
 -- an empty board asks nothing yet
-none_asked : (desk : Desk) → IsFresh desk → queries_on desk.board ≡ jobs_of (unnumbered [])
+none_asked : (desk : Progress) → IsNew desk → queries_on desk.board ≡ jobs_of (unnumbered [])
 none_asked desk fresh =
     ap (λ (journal : List Entry). queries_behind [] (segments journal)) fresh.journal
 
-none_read : (desk : Desk) → IsFresh desk →
+none_read : (desk : Progress) → IsNew desk →
     clauses_read desk.client desk.board ≡ clauses_stated (unnumbered [])
 none_read desk fresh =
     ap (λ (journal : List Entry). clauses_behind [] (segments journal)
     ++ desk.client.pending.items) fresh.journal ∙ fresh.pending
 
 -- before the first job
-pub asks_none : (desk : Desk) (bytes : List ℕ) → IsFresh desk →
+pub asks_none : (desk : Progress) (bytes : List ℕ) → IsNew desk →
     AsksFirst (record { bytes = bytes; ended = true; failed = false }) desk.board
 asks_none desk bytes fresh = record {
   left = queries_in bytes true;
@@ -64,9 +62,9 @@ asks_none desk bytes fresh = record {
 }
 
 -- memory ran out over the first part of the text
-pub asks_some : (old new : Desk) (bytes : List ℕ) (first rest : List Numbered) →
+pub asks_some : (old new : Progress) (bytes : List ℕ) (first rest : List Numbered) →
     statements [] false ++ first ≡ statements ([] ++ bytes) false →
-    statements bytes false ++ rest ≡ statements bytes true → IsFresh old →
+    statements bytes false ++ rest ≡ statements bytes true → IsNew old →
     AddsFirst old.client old.board new.board first →
     AsksFirst (record { bytes = bytes; ended = true; failed = false }) new.board
 asks_some old new bytes first rest given ends fresh added =
@@ -85,9 +83,9 @@ asks_some old new bytes first rest given ends fresh added =
     }
 
 -- memory ran out over the last part
-pub asks_more : (old mid new : Desk) (bytes : List ℕ) (first rest : List Numbered) →
+pub asks_more : (old mid new : Progress) (bytes : List ℕ) (first rest : List Numbered) →
     statements [] false ++ first ≡ statements ([] ++ bytes) false →
-    statements bytes false ++ rest ≡ statements bytes true → IsFresh old →
+    statements bytes false ++ rest ≡ statements bytes true → IsNew old →
     Adds old.client old.board mid.client mid.board first →
     AddsFirst mid.client mid.board new.board rest →
     AsksFirst (record { bytes = bytes; ended = true; failed = false }) new.board
@@ -103,10 +101,10 @@ asks_more old mid new bytes first rest given ends fresh adds added =
     }
 
 -- the whole text is asked
-pub asks_all : (old mid new : Desk) (bytes : List ℕ) (first rest : List Numbered)
+pub asks_all : (old mid new : Progress) (bytes : List ℕ) (first rest : List Numbered)
     (result : Result Unit AllocError) →
     statements [] false ++ first ≡ statements ([] ++ bytes) false →
-    statements bytes false ++ rest ≡ statements bytes true → IsFresh old →
+    statements bytes false ++ rest ≡ statements bytes true → IsNew old →
     Adds old.client old.board mid.client mid.board first →
     OnOk result (Adds mid.client mid.board new.client new.board rest) →
     OnOk result (queries_on new.board ≡ queries_in bytes true)
@@ -240,6 +238,22 @@ pub record HasAsked (settled : Result Unit AllocError) (number : ℕ) (board : S
 on_ok_by : {T E P Q : Type 0} (r : Result T E) → (P → Q) → OnOk r P → OnOk r Q
 on_ok_by (Ok x) f p = f p
 on_ok_by (Err e) f p = tt
+
+from_ok : {P : Type 0} (r : Result Unit AllocError) → IsOk r → OnOk r P → P
+from_ok (Ok done) ok p = p
+from_ok (Err want) ok p = absurd (not_ok want ok)
+
+-- where a client's jobs are those of the board, and each is settled
+pub asked_by : (settled added : Result Unit AllocError) (number : ℕ) (own board : State) →
+    OnOk settled (IsOk added × AreSettled board) → ReadsSum number added own →
+    segments board.journal ≡ segments own.journal → HasAsked settled number board
+asked_by settled added number own board both reads same = record {
+  begun = begun_same (reading_of number) own board same reads.first;
+  all = on_ok_by settled
+      (λ b. ap (queries_behind []) same ∙ from_ok added b.0 reads.all) both;
+  answered = on_ok_by settled (λ b. b.1) both;
+  right = on_ok_by settled (λ b. from_ok added b.0 reads.accepted) both;
+}
 
 -- all queries are asked
 none_left : (number : ℕ) (board : State) (begun : AsksFirst (reading_of number) board) →

@@ -1,16 +1,17 @@
--- The variables of the clauses that were read.
-use Rattle.std.proofs.Common.{◌≡◌, ◌∙◌, ℕ, ◌≤◌, List, [], ◌∷◌, ◌++◌, ap, sym, subst, arith}
-use Rattle.std.proofs.Common.{append_assoc, append-nil}
-use Rattle.std.specs.Prelude.{All, Result, Ok, Err, OnErr, OnOk}
-use Rattle.std.specs.declared.alloc.AllocError.{AllocError}
+-- The variables of clauses are within the limit.
+use Rattle.std.proofs.Common.{◌≡◌, ◌∙◌, ℕ, ◌+◌, ◌<◌, ◌≤◌, List, [], ◌∷◌, ◌++◌, length, map, take}
+use Rattle.std.proofs.Common.{ap, sym, subst, arith, Some}
+use Rattle.std.proofs.lemmas.List.{take_all, take_more, map-append}
 use Rattle.std.proofs.lemmas.List.Elements.{All-head, All-tail}
-use Rattle.sat_base.specs.Lit.{IsLit, IsLitSet, greatest_of}
+use Rattle.std.specs.Prelude.{All, get_or}
+use Rattle.sat_base.specs.Lit.{IsLit, IsLitSet, greatest_of, greatest_of_all}
+use Rattle.trace_core.specs.Known.{Known, item_at}
+use Rattle.entry_core.specs.declared.entries.Entry.{Entry}
 use Rattle.entry_core.specs.declared.segments.Segment.{Segment}
-use Rattle.entry_core.specs.Journal.{segments}
-use Rattle.board_core.specs.State.{State}
-use Rattle.tarmo_run.specs.declared.client.Client.{Client}
-use Rattle.tarmo_run.specs.Client.{AreWithinVariables, clauses_behind, clauses_on, clauses_read}
-use Rattle.tarmo_run.proofs.Queries.{clauses_behind-append}
+use Rattle.entry_core.specs.Journal.{clauses_of, inputs_of, segments}
+use Rattle.entry_core.proofs.Inputs.{inputs_of_none, inputs_of_one_more}
+use Rattle.tarmo_run.specs.Variables.{AreWithinVariables}
+use Rattle.tarmo_run.proofs.Queries.{tagged_clauses}
 
 -- variables of literals are within the greatest one
 within_lits : (lits : List ℕ) → All IsLit lits → greatest_of lits ≤ 8388607
@@ -23,53 +24,47 @@ within_lits (lit ∷ lits) all =
 pub within_set : (lits : List ℕ) → IsLitSet lits → greatest_of lits ≤ 8388607
 within_set lits set = within_lits lits set.each
 
-within_push : (clauses : List (List ℕ)) (clause : List ℕ) → AreWithinVariables clauses →
-    greatest_of clause ≤ 8388607 → AreWithinVariables (clauses ++ clause ∷ [])
-within_push [] clause within one = omega (arith, one)
-within_push (first ∷ clauses) clause within one =
-    let rest = within_push clauses clause (omega (arith, within)) one in
-    omega (arith, within, rest)
+within_both : (first second : List (List ℕ)) → AreWithinVariables first →
+    AreWithinVariables second → AreWithinVariables (first ++ second)
+within_both [] second one two = two
+within_both (clause ∷ first) second one two =
+    let rest = within_both first second (omega (arith, one)) two in
+    omega (arith, one, rest)
 
-pub within_front : (clauses more : List (List ℕ)) →
-    AreWithinVariables (clauses ++ more) → AreWithinVariables clauses
-within_front [] more within = omega arith
-within_front (clause ∷ clauses) more within =
-    let rest = within_front clauses more (omega (arith, within)) in
-    omega (arith, within, rest)
+-- one clause more
+pub within_more : (clauses : List (List ℕ)) (i : ℕ) (clause : List ℕ) → i < length clauses →
+    clause ≡ get_or clauses i clause → IsLitSet clause → AreWithinVariables (take i clauses) →
+    AreWithinVariables (take (i + 1) clauses)
+within_more clauses i clause lt is set before =
+    let one : AreWithinVariables (clause ∷ []) =
+    let le = within_set clause set in omega (arith, le) in
+    subst AreWithinVariables (sym (take_more clauses i clause lt
+    ∙ ap (λ (x : List ℕ). take i clauses ++ x ∷ []) (sym is)))
+    (within_both (take i clauses) (clause ∷ []) before one)
 
-within_with : (board : State) (pending pending' : List (List ℕ)) → pending' ≡ pending →
-    AreWithinVariables (clauses_on board ++ pending) →
-    AreWithinVariables (clauses_on board ++ pending')
-within_with board pending pending' same within =
-    subst (λ (rest : List (List ℕ)). AreWithinVariables (clauses_on board ++ rest))
-    (sym same) within
+-- all of them
+pub within_all : (clauses : List (List ℕ)) (i : ℕ) → length clauses ≤ i →
+    AreWithinVariables (take i clauses) → AreWithinVariables clauses
+within_all clauses i le within = subst AreWithinVariables (take_all i clauses le) within
 
--- a clause is kept, or isn't
-pub within_kept : (result : Result Unit AllocError) (old new : Client) (board : State)
-    (clause : List ℕ) → IsLitSet clause →
-    OnOk result (new.pending.items ≡ old.pending.items ++ clause ∷ []) →
-    OnErr result (new.pending.items ≡ old.pending.items) →
-    AreWithinVariables (clauses_read old board) → AreWithinVariables (clauses_read new board)
-within_kept (Ok done) old new board clause set kept same within =
-    within_with board (old.pending.items ++ clause ∷ []) new.pending.items kept
-    (subst AreWithinVariables (append_assoc (clauses_on board) old.pending.items (clause ∷ []))
-    (within_push (clauses_read old board) clause within (within_set clause set)))
-within_kept (Err want) old new board clause set kept same within =
-    within_with board old.pending.items new.pending.items same within
+-- no job has no clauses
+pub within_none : (journal : List Entry) → AreWithinVariables (clauses_of journal 0)
+within_none journal = subst AreWithinVariables
+    (sym (ap (map (λ (one : Known). one.clause)) (inputs_of_none journal))) (omega arith)
 
--- the pending clauses become those of a job, or are gone
-pub within_added : (result : Result Unit AllocError) (old new : Client) (before after : State)
-    (cube : List ℕ) →
-    OnOk result (segments after.journal
-    ≡ segments before.journal ++ record { clauses = old.pending.items; cube = cube } ∷ []) →
-    OnErr result (after ≡ before) → new.pending.items ≡ [] →
-    AreWithinVariables (clauses_read old before) → AreWithinVariables (clauses_read new after)
-within_added (Ok done) old new before after cube added same none within =
-    let segment : Segment = record { clauses = old.pending.items; cube = cube } in
-    within_with after [] new.pending.items none
-    (subst AreWithinVariables (sym (append-nil (clauses_on after) ∙ ap (clauses_behind []) added
-    ∙ clauses_behind-append [] (segments before.journal) segment)) within)
-within_added (Err want) old new before after cube added same none within =
-    within_with after [] new.pending.items none
-    (subst AreWithinVariables (sym (append-nil (clauses_on after) ∙ ap clauses_on same))
-    (within_front (clauses_on before) old.pending.items within))
+-- the clauses of the next job
+pub within_next : (journal : List Entry) (written job : ℕ) (segment : Segment) →
+    job ≡ written + 1 → item_at (segments journal) job ≡ Some segment →
+    AreWithinVariables (clauses_of journal written) → AreWithinVariables segment.clauses →
+    AreWithinVariables (clauses_of journal job)
+within_next journal written job segment next is before own =
+    let more = inputs_of_one_more journal written segment
+    (subst (λ n. item_at (segments journal) n ≡ Some segment) next is) in
+    let whole : clauses_of journal job ≡ clauses_of journal written ++ segment.clauses =
+    ap (clauses_of journal) next ∙ ap (map (λ (one : Known). one.clause)) more
+    ∙ map-append (λ (one : Known). one.clause) (inputs_of journal written)
+    (map (λ (clause : List ℕ). record { clause = clause; tag = written + 1 }) segment.clauses)
+    ∙ ap (λ (clauses : List (List ℕ)). clauses_of journal written ++ clauses)
+    (tagged_clauses (written + 1) segment.clauses) in
+    subst AreWithinVariables (sym whole)
+    (within_both (clauses_of journal written) segment.clauses before own)

@@ -12,3 +12,14 @@ rules_of command = record {
   first = command.first;
   traces = command.trace;
 }
+
+-- the rules of a run on many threads: one client adds the jobs, and one writes their blocks
+abbrev pub shared_rules_of : Asked → Rules
+shared_rules_of command = record {
+  clients = 2;
+  workers = command.workers;
+  attempts = command.attempts;
+  conflicts = command.conflicts;
+  first = command.first;
+  traces = command.trace;
+}

@@ -1,6 +1,5 @@
 -- What a client has read, and which of it stands on the board.
-use Rattle.std.specs.Prelude.{◌≡◌, ℕ, ◌≤◌, List, [], ◌∷◌, ◌++◌}
-use Rattle.sat_base.specs.Lit.{greatest_of_all}
+use Rattle.std.specs.Prelude.{◌≡◌, ℕ, List, [], ◌∷◌, ◌++◌}
 use Rattle.icnf_text.specs.declared.statements.Numbered.{Numbered}
 use Rattle.icnf_text.specs.Jobs.{Job, jobs_after, clauses_after}
 use Rattle.entry_core.specs.declared.segments.Segment.{Segment}
@@ -37,10 +36,6 @@ clauses_on board = clauses_behind [] (segments board.journal)
 -- the clauses that were read: those of the board's jobs, and those behind the last cube
 abbrev pub clauses_read : Client → State → List (List ℕ)
 clauses_read client board = clauses_on board ++ client.pending.items
-
--- no variable of the clauses is above 8,388,607, the greatest one that a literal may have
-abbrev pub AreWithinVariables : List (List ℕ) → Type 0
-AreWithinVariables clauses = greatest_of_all clauses ≤ 8388607
 
 -- the queries of these statements became jobs, and their other clauses were kept
 pub record Adds (old : Client) (before : State) (new : Client) (after : State)

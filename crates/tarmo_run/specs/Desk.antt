@@ -1,12 +1,13 @@
 -- What the run alone has at hand between two pieces of a text.
-use Rattle.std.specs.Prelude.{◌≡◌, ℕ, Bool, Option, List, []}
+use Rattle.std.specs.Prelude.{◌≡◌, ℕ, Bool, Option, None, Some, List, []}
 use Rattle.entry_core.specs.declared.rules.Rules.{Rules}
 use Rattle.entry_core.specs.Settled.{cancelled}
 use Rattle.worker_loop.specs.Fits.{Fits}
 use Rattle.worker_loop.specs.Working.{IsResting}
-use Rattle.icnf_text.specs.declared.statements.Numbered.{Numbered}
 use Rattle.tarmo_run.specs.declared.desk.Desk.{Desk}
-use Rattle.tarmo_run.specs.Client.{Adds, AreWithinVariables, clauses_read}
+use Rattle.tarmo_run.specs.declared.endings.Ending.{Ending}
+use Rattle.tarmo_run.specs.Output.{UnlessExhausted}
+use Rattle.tarmo_run.specs.Reading.{Progress}
 use Rattle.tarmo_run.specs.Writer.{HasAllBlocks, HasCounted, HasWritten, TookFront}
 
 -- rules of a run with one client and one worker
@@ -19,7 +20,6 @@ pub record IsAlone (rules : Rules) : Type 0 where
 pub record IsBetweenPieces (desk : Desk) : Type 0 where
   pub alone : IsAlone desk.board.rules
   pub none_cancelled : cancelled desk.board.journal ≡ []
-  pub within : AreWithinVariables (clauses_read desk.client desk.board)
   pub fits : Fits desk.bench desk.board.journal
   pub resting : IsResting desk.board 2
   pub counted : HasCounted desk.writer desk.board
@@ -30,10 +30,14 @@ pub record IsFresh (desk : Desk) : Type 0 where
   pub pending : desk.client.pending.items ≡ []
   pub written : desk.writer.written ≡ 0
 
--- the queries of these statements became jobs, and each job has its block
-pub record Answers (old new : Desk) (list : List Numbered) : Type 0 where
-  pub adds : Adds old.client old.board new.client new.board list
-  pub done : HasAllBlocks new.writer new.board
+-- how far the client of a desk has come
+abbrev pub progress_of : Desk → Progress
+progress_of desk = record { client = desk.client; board = desk.board }
+
+-- Each job is settled and has its block, unless memory ran out where the run ended.
+abbrev pub HasAnswered : Option Ending → Desk → Type 0
+HasAnswered None desk = HasAllBlocks desk.writer desk.board
+HasAnswered (Some ending) desk = UnlessExhausted ending (HasAllBlocks desk.writer desk.board)
 
 -- what is written stays written, whatever was taken before
 abbrev pub Shows : Bool → Desk → Desk → Option (List ℕ) → Option (List ℕ) → Type 0

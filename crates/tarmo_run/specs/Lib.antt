@@ -1,3 +1,4 @@
+pub mod Variables
 pub mod Asking
 pub mod Block
 pub mod Body
@@ -9,3 +10,7 @@ pub mod Stop
 pub mod Desk
 pub mod Reading
 pub mod Ended
+pub mod Sides
+pub mod Crew
+pub mod Task
+pub mod Agreement

@@ -1,30 +1,39 @@
 -- What a writer has counted, and what its sink took.
-use Rattle.std.specs.Prelude.{◌≡◌, ◌+◌, ◌≤◌, ℕ, Bool, Option, List, length, take}
+use Rattle.std.specs.Prelude.{◌≡◌, ◌+◌, ◌≤◌, ℕ, Bool, Option, Some, List, length, take}
+use Rattle.std.specs.Arc.{arc_value}
 use Rattle.run_io.specs.Bytes.{appended}
-use Rattle.entry_core.specs.declared.answers.Verdict.{Verdict}
-use Rattle.entry_core.specs.Journal.{inputs_of, jobs}
+use Rattle.trace_core.specs.Known.{item_at}
+use Rattle.entry_core.specs.Journal.{clauses_of, inputs_of, jobs, segments}
+use Rattle.entry_core.specs.Legal.{IsLegal}
 use Rattle.board_core.specs.Replies.{HasVerdict}
 use Rattle.board_core.specs.State.{State}
 use Rattle.tarmo_run.specs.declared.writer.Writer.{Writer}
+use Rattle.tarmo_run.specs.declared.writer.Due.{Due}
 use Rattle.tarmo_run.specs.declared.writer.Halt.{Halt}
 use Rattle.tarmo_run.specs.declared.writer.Halt.TheVariants.{Unwritten, Memory}
 use Rattle.tarmo_run.specs.Block.{AreBlocks}
+use Rattle.tarmo_run.specs.Variables.{AreWithinVariables}
 use Rattle.tarmo_run.specs.Output.{AreSettled}
 
--- The jobs that have their blocks are the first ones of the board, and their clauses are counted.
+-- The jobs that have their blocks are the first ones of the board. Their clauses are counted, and
+-- their variables are within the limit.
 pub record HasCounted (writer : Writer) (board : State) : Type 0 where
   pub few : writer.written ≤ jobs board.journal
   pub inputs : writer.inputs ≡ length (inputs_of board.journal writer.written)
+  pub within : AreWithinVariables (clauses_of board.journal writer.written)
 
 -- each job is settled and has its block
 pub record HasAllBlocks (writer : Writer) (board : State) : Type 0 where
   pub settled : AreSettled board
   pub written : writer.written ≡ jobs board.journal
 
--- the first job without a block, and its verdict
-pub record IsDue (writer : Writer) (board : State) (job : ℕ) (given : Verdict) : Type 0 where
-  pub next : job ≡ writer.written + 1
-  pub verdict : HasVerdict board job given
+-- the first job without a block, what was added with it and its verdict, on a legal board
+pub record IsDue (writer : Writer) (board : State) (due : Due) : Type 0 where
+  pub legal : IsLegal board.rules board.journal
+  pub counted : HasCounted writer board
+  pub next : due.job ≡ writer.written + 1
+  pub added : item_at (segments board.journal) due.job ≡ Some (arc_value due.segment)
+  pub verdict : HasVerdict board due.job due.verdict
 
 -- the blocks of the first jobs of the board were taken
 pub record TookBlocks (trace : Bool) (board : State) (count : ℕ)

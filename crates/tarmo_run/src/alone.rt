@@ -35,7 +35,8 @@ use words::{WordsFault, Work};
 /// The status of a run whose words are refused.
 pub const WORDS_REFUSED: u8 = 5;
 
-const SINK_FAILED: u8 = 4;
+/// The status of a run whose sink failed.
+pub(crate) const SINK_FAILED: u8 = 4;
 
 /// What a run gives back.
 #[derive(Debug, Drop)]
@@ -140,8 +141,8 @@ pub fn run_alone<S: Source, O: Sink>(
     }
 }
 
-// A run without memory for its words or for a board: says so.
-fn finish_without_memory<O: Sink>(out: &mut O) -> Finish
+/// A run without memory for its words or for a board: says so.
+pub(crate) fn finish_without_memory<O: Sink>(out: &mut O) -> Finish
     requires sink_faults { O.faults out.old < last_count }
     ensures board { result.board ≡ None }
     ensures status { (result.status ≡ 6) ⊎ (result.status ≡ 4) }
@@ -260,12 +261,20 @@ fn sum_over<O: Sink>(alloc: Global, rules: Rules, number: u64, board: Board, out
     }
 }
 
-// Gives the board back.
+// Gives the board of the desk back.
 fn give_back(desk: Desk, status: u8) -> Finish
     ensures parts { result ≡ record { status = status; board = Some desk.board } }
     ensures legal { IsLegal desk.board.rules desk.board.journal }
 {
     let Desk { board, .. } = desk;
+    hand_over(board, status)
+}
+
+/// Gives the board back.
+pub(crate) fn hand_over(board: Board, status: u8) -> Finish
+    ensures parts { result ≡ record { status = status; board = Some board } }
+    ensures legal { IsLegal board.rules board.journal }
+{
     // A board tells that its journal is legal.
     let _ = board.journal();
     Finish {

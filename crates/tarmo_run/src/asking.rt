@@ -4,17 +4,19 @@ ghost use Rattle.std.specs.Prelude.{◌≡◌, None, Some, map, option_map, stri
 ghost use Rattle.std.specs.Prelude.{IfErr, IfOk};
 ghost use Rattle.entry_core.specs.Legal.{AreWithinLimits};
 ghost use Rattle.words.specs.Accepted.{Asked, accepted, input_of};
-ghost use Rattle.tarmo_run.specs.Asking.{rules_of};
+ghost use Rattle.tarmo_run.specs.Asking.{rules_of, shared_rules_of};
 ghost use Rattle.tarmo_run.specs.Desk.{IsAlone};
+ghost use Rattle.tarmo_run.specs.Task.{shared_rules};
 
 use entry_core::Rules;
 use std::alloc::Global;
 use words::{WordsFault, Work, read_words};
 
-/// The rules of a run's board, and what it works on.
+/// The rules of a run on one thread, how many workers one on many has, and what it works on.
 #[derive(Drop)]
 pub(crate) struct Task {
     pub(crate) rules: Rules,
+    pub(crate) workers: u32,
     pub(crate) work: Work,
 }
 
@@ -26,7 +28,10 @@ impl Task {
         ensures work { IfOk result (λ task. (command : Asked) →
             accepted (map string_bytes words.now) ≡ Some command →
             command.work ≡ input_of task.work) }
+        ensures shared { IfOk result (λ task. option_map shared_rules_of
+            (accepted (map string_bytes words.now)) ≡ Some (shared_rules task)) }
         ensures limits { IfOk result (λ task. AreWithinLimits task.rules) }
+        ensures few { IfOk result (λ task. AreWithinLimits (shared_rules task)) }
         ensures alone { IfOk result (λ task. IsAlone task.rules) }
         ensures refused { IfErr result (λ fault. fault ≡ WordsFault.Refused →
             accepted (map string_bytes words.now) ≡ None) }
@@ -42,7 +47,19 @@ impl Task {
         };
         Ok(Task {
             rules,
+            workers: command.workers,
             work: command.work,
         })
+    }
+
+    /// The rules of a run on many threads: with two clients, and the workers of the words.
+    pub(crate) fn shared_rules(&self) -> Rules
+        ensures { result ≡ shared_rules self.now }
+    {
+        Rules {
+            clients: 2,
+            workers: self.workers,
+            ..self.rules
+        }
     }
 }

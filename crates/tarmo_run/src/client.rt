@@ -2,13 +2,11 @@
 //! verdicts.
 
 ghost use Rattle.std.specs.Prelude.{◌≡◌, ◌++◌, ◌∷◌, [], None, true, IfOk, IfSome, OnOk, OnErr};
-ghost use Rattle.sat_base.specs.Lit.{IsLitSet};
 ghost use Rattle.entry_core.specs.Journal.{is_closed, segments};
 ghost use Rattle.entry_core.specs.Legal.{IsClient};
 ghost use Rattle.entry_core.specs.Settled.{cancelled, settled};
 ghost use Rattle.board_core.specs.Replies.{HasVerdict, IsJob};
-ghost use Rattle.tarmo_run.specs.Client.{Adds, AddsFirst, AreWithinVariables, clauses_read};
-ghost use Rattle.tarmo_run.specs.Client.{queries_on};
+ghost use Rattle.tarmo_run.specs.Client.{Adds, AddsFirst, clauses_read, queries_on};
 ghost use Rattle.tarmo_run.specs.Growth.{HasJobsMore, HasNoJobMore};
 ghost use Rattle.tarmo_run.specs.Output.{AreSettled};
 
@@ -48,8 +46,6 @@ impl Client {
         list: Vec<Numbered>,
     ) -> Result<(), AllocError>
         requires client { IsClient board.old.rules 1 }
-        requires within { AreWithinVariables (clauses_read self.old board.old) }
-        ensures within { AreWithinVariables (clauses_read self.new board.new) }
         ensures more { HasJobsMore board.old board.new }
         ensures first { AddsFirst self.old board.old board.new list.items }
         ensures all { OnOk result (Adds self.old board.old self.new board.new list.items) }
@@ -62,8 +58,6 @@ impl Client {
 
     fn add(&mut self, board: &mut Board, numbered: Numbered) -> Result<(), AllocError>
         requires client { IsClient board.old.rules 1 }
-        requires within { AreWithinVariables (clauses_read self.old board.old) }
-        ensures within { AreWithinVariables (clauses_read self.new board.new) }
         ensures more { HasJobsMore board.old board.new }
         ensures none { OnErr result (queries_on board.new ≡ queries_on board.old) }
         ensures all { OnOk result (Adds self.old board.old self.new board.new (numbered ∷ [])) }
@@ -74,20 +68,24 @@ impl Client {
         }
     }
 
-    // Keeps the clause for the next job.
-    fn keep(&mut self, clause: Clause) -> Result<(), AllocError>
-        ensures set { IsLitSet clause }
+    /// Keeps the clause for the next job.
+    pub(crate) fn keep(&mut self, clause: Clause) -> Result<(), AllocError>
         ensures kept { OnOk result
             (self.new.pending.items ≡ self.old.pending.items ++ clause ∷ []) }
         ensures err { OnErr result (self.new.pending.items ≡ self.old.pending.items) }
     {
-        // Its literals tell that a clause is a set of literals, whose variables are within their
-        // limit.
-        let _ = clause.lits();
         if self.pending.push(clause).is_err() {
             return Err(AllocError);
         }
         Ok(())
+    }
+
+    /// Takes the clauses since the last job.
+    pub(crate) fn take_pending(&mut self) -> Vec<Clause>
+        ensures taken { result.items ≡ self.old.pending.items }
+        ensures none_left { self.new.pending.items ≡ [] }
+    {
+        std::mem::replace(&mut self.pending, Vec::new(self.alloc))
     }
 
     // Adds the job of a cube, with the clauses since the last one. What a text can have a board can
@@ -100,7 +98,7 @@ impl Client {
         ensures err { OnErr result (board.new ≡ board.old) }
         ensures none_left { self.new.pending.items ≡ [] }
     {
-        let clauses = std::mem::replace(&mut self.pending, Vec::new(self.alloc));
+        let clauses = self.take_pending();
         let segment = Segment {
             clauses: Clauses::of(clauses),
             cube,

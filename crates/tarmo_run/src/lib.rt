@@ -6,17 +6,28 @@
 //! of `run_io`.
 #![tactic(auto)]
 
+mod adder;
+mod agreement;
 mod alone;
 mod asking;
 mod client;
+mod closing;
+mod crew;
 mod desk;
 mod endings;
+mod meeting;
 mod pieces;
+mod printer;
+mod reader;
+mod sides;
 mod sum;
 mod summary;
 #[cfg(test)]
 mod tests;
+mod top;
 mod writer;
 
+pub use agreement::runs_agree;
 pub use alone::{Finish, WORDS_REFUSED, run_alone};
 pub use endings::{NO_MEMORY, UNDECIDED};
+pub use top::run;

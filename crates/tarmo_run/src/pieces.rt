@@ -1,11 +1,12 @@
 //! A text that comes in pieces, and is answered as it comes.
 
-ghost use Rattle.std.specs.Prelude.{◌≡◌, ◌<◌, ◌≤◌, ◌++◌, ℕ, List, Bool, None, false, true, nat_lt};
-ghost use Rattle.std.specs.Prelude.{length, IfOk, OnErr, OnOk, MatchOption};
+ghost use Rattle.std.specs.Prelude.{◌≡◌, ◌<◌, ◌≤◌, ◌++◌, ℕ, List, Bool, None, Some, false, true};
+ghost use Rattle.std.specs.Prelude.{nat_lt, length, IfOk, OnErr, OnOk, MatchOption};
 ghost use Rattle.run_io.specs.Bytes.{IsEmptyWhereTold};
 ghost use Rattle.run_io.specs.Fault.{HasCause, last_count};
-ghost use Rattle.tarmo_run.specs.Client.{AddsFirst};
-ghost use Rattle.tarmo_run.specs.Desk.{Answers, IsBetweenPieces, IsFresh, Shows, ShowsFront};
+ghost use Rattle.tarmo_run.specs.Client.{Adds, AddsFirst};
+ghost use Rattle.tarmo_run.specs.Desk.{HasAnswered, IsBetweenPieces, IsFresh, Shows, ShowsFront};
+ghost use Rattle.tarmo_run.specs.Desk.{progress_of};
 ghost use Rattle.tarmo_run.specs.Reading.{AsksFirst, IsCaughtUp, IsThrough, ReadsInPart};
 ghost use Rattle.tarmo_run.specs.Reading.{ReadsThrough, StopsBy, ending_behind};
 
@@ -16,11 +17,11 @@ use icnf_text::{Fault, Fed, Reader};
 use run_io::{Failed, Sink, Source};
 use std::alloc::{AllocError, Global};
 
-// The most bytes that are asked of one read.
-const PIECE: usize = 65_536;
+/// The most bytes that are asked of one read.
+pub(crate) const PIECE: usize = 65_536;
 
-// A buffer for one piece.
-fn buffer(alloc: Global, len: usize) -> Result<Vec<u8>, AllocError>
+/// A buffer for one piece.
+pub(crate) fn buffer(alloc: Global, len: usize) -> Result<Vec<u8>, AllocError>
     ensures { IfOk result (λ buffer. length buffer.items ≡ len) }
 {
     vec![in alloc; 0u8; len]
@@ -45,7 +46,8 @@ pub(crate) fn show_blocks<S: Source, O: Sink>(
     ensures rules { desk.new.board.rules ≡ desk.old.board.rules }
     ensures through { IfOk result (λ ending.
         ReadsThrough ending (S.left source.old) (S.left source.new) (S.ended source.new)
-        (nat_lt (S.faults source.old) (S.faults source.new)) desk.new) }
+        (nat_lt (S.faults source.old) (S.faults source.new)) desk.new.board) }
+    ensures answered { IfOk result (λ ending. HasAnswered (Some ending) desk.new) }
     ensures in_part { OnErr result
         (ReadsInPart (S.left source.old) (S.left source.new) (S.ended source.new)
         (nat_lt (S.faults source.old) (S.faults source.new)) desk.new.board) }
@@ -84,7 +86,8 @@ fn answer_pieces<S: Source, O: Sink>(
     ensures rules { desk.new.board.rules ≡ desk.old.board.rules }
     ensures through { IfOk result (λ ending.
         ReadsThrough ending (S.left source.old) (S.left source.new) (S.ended source.new)
-        (nat_lt (S.faults source.old) (S.faults source.new)) desk.new) }
+        (nat_lt (S.faults source.old) (S.faults source.new)) desk.new.board) }
+    ensures answered { IfOk result (λ ending. HasAnswered (Some ending) desk.new) }
     ensures in_part { OnErr result
         (ReadsInPart (S.left source.old) (S.left source.new) (S.ended source.new)
         (nat_lt (S.faults source.old) (S.faults source.new)) desk.new.board) }
@@ -124,13 +127,15 @@ fn answer_piece<O: Sink>(
     ensures between { IsBetweenPieces desk.new }
     ensures rules { desk.new.board.rules ≡ desk.old.board.rules }
     ensures through { IfOk result (λ stop. (bytes : List ℕ) (failed : Bool) →
-        failed ≡ false → IsCaughtUp reader.old desk.old bytes →
+        failed ≡ false → IsCaughtUp reader.old (progress_of desk.old) bytes →
         MatchOption stop
-        (IsCaughtUp reader.new desk.new (bytes ++ piece.now))
+        (IsCaughtUp reader.new (progress_of desk.new) (bytes ++ piece.now))
         (λ ending. IsThrough ending
-        (record { bytes = bytes ++ piece.now; ended = false; failed = failed }) desk.new)) }
+        (record { bytes = bytes ++ piece.now; ended = false; failed = failed })
+        desk.new.board)) }
+    ensures answered { IfOk result (λ stop. HasAnswered stop desk.new) }
     ensures in_part { OnErr result ((bytes : List ℕ) (failed : Bool) →
-        IsCaughtUp reader.old desk.old bytes → AsksFirst
+        IsCaughtUp reader.old (progress_of desk.old) bytes → AsksFirst
         (record { bytes = bytes ++ piece.now; ended = false; failed = failed }) desk.new.board) }
     ensures writes { OnOk result
         (Shows trace desk.old desk.new (O.taken out.old) (O.taken out.new)) }
@@ -155,10 +160,12 @@ fn answer_rest<O: Sink>(
     ensures between { IsBetweenPieces desk.new }
     ensures rules { desk.new.board.rules ≡ desk.old.board.rules }
     ensures through { IfOk result (λ ending. (bytes : List ℕ) (failed : Bool) →
-        failed ≡ false → IsCaughtUp reader desk.old bytes →
-        IsThrough ending (record { bytes = bytes; ended = true; failed = failed }) desk.new) }
+        failed ≡ false → IsCaughtUp reader (progress_of desk.old) bytes →
+        IsThrough ending (record { bytes = bytes; ended = true; failed = failed })
+        desk.new.board) }
+    ensures answered { IfOk result (λ ending. HasAnswered (Some ending) desk.new) }
     ensures in_part { OnErr result ((bytes : List ℕ) (failed : Bool) →
-        IsCaughtUp reader desk.old bytes →
+        IsCaughtUp reader (progress_of desk.old) bytes →
         AsksFirst (record { bytes = bytes; ended = true; failed = failed }) desk.new.board) }
     ensures writes { OnOk result
         (Shows trace desk.old desk.new (O.taken out.old) (O.taken out.new)) }
@@ -187,8 +194,11 @@ fn answer_fed<O: Sink>(
     ensures between { IsBetweenPieces desk.new }
     ensures rules { desk.new.board.rules ≡ desk.old.board.rules }
     ensures stops { IfOk result (λ stop. MatchOption stop
-        ((fed.fault ≡ None) × Answers desk.old desk.new fed.statements)
-        (λ ending. StopsBy ending fed.fault desk.old desk.new fed.statements)) }
+        ((fed.fault ≡ None) × Adds desk.old.client desk.old.board desk.new.client desk.new.board
+        fed.statements)
+        (λ ending. StopsBy ending fed.fault (progress_of desk.old) (progress_of desk.new)
+        fed.statements)) }
+    ensures answered { IfOk result (λ stop. HasAnswered stop desk.new) }
     ensures first { OnErr result
         (AddsFirst desk.old.client desk.old.board desk.new.board fed.statements) }
     ensures writes { OnOk result
@@ -205,8 +215,11 @@ fn answer_fed<O: Sink>(
     }
 }
 
-// Where a run stops behind statements: where memory ran out, or at a wrong place.
-fn ending_behind(advanced: Result<(), AllocError>, fault: Option<Fault>) -> Option<Ending>
+/// Where a run stops behind statements: where memory ran out, or at a wrong place.
+pub(crate) fn ending_behind(
+    advanced: Result<(), AllocError>,
+    fault: Option<Fault>,
+) -> Option<Ending>
     ensures { result ≡ ending_behind advanced fault }
 {
     match advanced {

@@ -4,6 +4,7 @@ mod command_lines;
 mod dialogue;
 mod faults;
 mod outcomes;
+mod sides;
 mod texts;
 
 use crate::run_alone;

@@ -1,21 +1,55 @@
-//! A source that gives its next piece only after the block of the piece before was written.
+//! A source that gives its next piece only once the block of the piece before was written.
 
-ghost use Rattle.std.specs.Prelude.{◌≡◌, ◌≤◌, length};
+ghost use Rattle.std.specs.Prelude.{◌≡◌, ◌≤◌, false, length};
 ghost use Rattle.run_io.specs.Bytes.{is_end_at};
 
-use crate::run_alone;
-use run_io::{Failed, Sink, Source};
-use std::cell::Cell;
+use super::words_of;
+use crate::{run, run_alone};
+use run_io::{Failed, NoGate, Sink, Source};
+use std::alloc::{AllocError, Global};
+use std::process::Abort;
+use std::sync::Wait;
+use std::sync::atomic::AtomicUsize;
+use std::sync::atomic::Ordering::SeqCst;
+use std::test::Fail;
+use std::thread::{self, Threads};
 
 const PIECES: [&[u8]; 2] = [b"p inccnf\n1 0\na 0\n", b"-1 0\na 0\n"];
 
-// Each piece ends one job, so before a read as many blocks were written as there were reads.
+// How often a read looks whether the blocks before it were written.
+const LOOKS: u64 = 10_000_000;
+
+// Each piece ends one job, so a read waits until as many blocks were written as there were reads.
 #[derive(Drop)]
 struct Asking<'a> {
-    writes: &'a Cell<usize>,
+    writes: &'a AtomicUsize,
     reads: usize,
     faults: u64,
     ended: bool,
+}
+
+impl<'a> Asking<'a> {
+    fn new(writes: &'a AtomicUsize) -> Asking<'a>
+        ensures { (result.faults ≡ 0) × (result.ended ≡ false) }
+    {
+        Asking {
+            writes,
+            reads: 0,
+            faults: 0,
+            ended: false,
+        }
+    }
+
+    // Whether the blocks before the next piece were written, within so many looks.
+    fn is_answered(&self) -> bool {
+        for _ in 0..LOOKS {
+            if self.writes.load(SeqCst) >= self.reads {
+                return true;
+            }
+            thread::yield_now();
+        }
+        false
+    }
 }
 
 impl<'a> Source for Asking<'a> {
@@ -32,7 +66,7 @@ impl<'a> Source for Asking<'a> {
     }
 
     fn read(&mut self, buf: &mut [u8]) -> Result<usize, Failed> {
-        if self.writes.get() != self.reads {
+        if !self.is_answered() {
             self.faults = self.faults.saturating_add(1);
             return Err(Failed);
         }
@@ -63,7 +97,7 @@ fn copy_front(bytes: &[u8], buf: &mut [u8]) -> usize
 // Counts its writes, and keeps nothing.
 #[derive(Drop)]
 struct Counting<'a> {
-    writes: &'a Cell<usize>,
+    writes: &'a AtomicUsize,
 }
 
 impl<'a> Sink for Counting<'a> {
@@ -74,7 +108,7 @@ impl<'a> Sink for Counting<'a> {
     ghost faults = { λ _. 0 };
 
     fn write(&mut self, piece: &[u8]) -> Result<usize, Failed> {
-        self.writes.set(self.writes.get().saturating_add(1));
+        self.writes.fetch_add(1, SeqCst);
         Ok(piece.len())
     }
 
@@ -83,17 +117,39 @@ impl<'a> Sink for Counting<'a> {
     }
 }
 
+// Two blocks and the last line were written, none of them late.
+fn assert_answered(rt: &impl Abort, status: u8, writes: &AtomicUsize) {
+    assert_eq!(rt; status, 0);
+    assert_eq!(rt; writes.load(SeqCst), 3, "two blocks and the last line");
+}
+
 #[test]
 fn a_block_is_written_before_more_is_read(rt: HostRuntime) {
-    let writes = Cell::new(0);
-    let mut source = Asking {
-        writes: &writes,
-        reads: 0,
-        faults: 0,
-        ended: false,
-    };
+    let writes = AtomicUsize::new(0);
+    let mut source = Asking::new(&writes);
     let mut sink = Counting { writes: &writes };
     let finish = run_alone(rt.alloc(), &[], &mut source, &mut sink);
-    assert_eq!(rt; finish.status, 0);
-    assert_eq!(rt; writes.get(), 3, "two blocks and the last line");
+    assert_answered(&rt, finish.status, &writes);
+}
+
+fn assert_talks<R: Threads + Wait + Sync + Abort>(
+    rt: &R,
+    alloc: Global,
+    line: &str,
+) -> Result<(), AllocError> {
+    let words = words_of(alloc, line)?;
+    let writes = AtomicUsize::new(0);
+    let mut source = Asking::new(&writes);
+    let mut sink = Counting { writes: &writes };
+    let finish = run(rt, alloc, &words, &mut source, &mut sink, &NoGate);
+    assert_answered(rt, finish.status, &writes);
+    Ok(())
+}
+
+#[test]
+fn a_block_is_written_while_the_source_is_silent(rt: HostRuntime) -> Result<(), Fail> {
+    for line in ["--workers 1", "--workers 2", "--workers 8"] {
+        assert_talks(&rt, rt.alloc(), line)?;
+    }
+    Ok(())
 }

@@ -11,7 +11,7 @@ const PIECES: &[usize] = &[17, 5, 4];
 
 // Behind the start the text comes in three reads, the first of which ends job 1 and the third job
 // 2, and a fourth finds its end.
-const SOURCE_FAILS: &[Case<'static>] = &[
+pub(super) const SOURCE_FAILS: &[Case<'static>] = &[
     Case {
         cuts: PIECES,
         source_fails: &[1],
@@ -61,7 +61,7 @@ const SOURCE_FAILS: &[Case<'static>] = &[
 // How many bytes a sink takes that fails at a call: the cuts of the text, how many bytes it takes
 // at a write, the call, how many it took in all, the status, and how the jobs are settled. A job is
 // settled before its block is written, so none is left to be cancelled.
-const SINK_FAILS: &[(&[usize], usize, &[u64], usize, u8, &[Outcome])] = &[
+pub(super) const SINK_FAILS: &[(&[usize], usize, &[u64], usize, u8, &[Outcome])] = &[
     (&[], 1000, &[1], 0, 4, BOTH),
     // The blocks and the last line, of 22, 22 and 6 bytes, take one write each, and one flush
     // follows.

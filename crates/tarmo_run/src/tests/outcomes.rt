@@ -22,7 +22,7 @@ const PIGEONS_AND_MORE: &str =
 
 const REFUTED: &[Outcome] = &[Outcome::Refuted];
 
-const SPENT: &[Outcome] = &[Outcome::Spent];
+pub(super) const SPENT: &[Outcome] = &[Outcome::Spent];
 
 const SPENT_THEN_REFUTED: &[Outcome] = &[Outcome::Spent, Outcome::Refuted];
 
@@ -34,7 +34,7 @@ const THIRD_CANCELLED: &[Outcome] = &[Outcome::Refuted, Outcome::Model, Outcome:
 const SUMMARY: &str = "sum 7\nclauses 2\njobs 3\nsatisfiable 1\nunsatisfiable 1\nunknown 0\n\
     cancelled 1\nnomemory 0\n";
 
-const TRACED: &[Case<'static>] = &[
+pub(super) const TRACED: &[Case<'static>] = &[
     Case {
         words: "--trace",
         text: "p inccnf\n1 2 0\na 3 -3 0\n",

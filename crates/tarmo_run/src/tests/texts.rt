@@ -16,7 +16,7 @@ const COUNTED: &str =
     "j 1 UNSATISFIABLE\nf 3 0\nj 2 UNSATISFIABLE\nf 6 0\nj 3 UNSATISFIABLE\nf 9 0\n\
     j 4 SATISFIABLE\nv -1 -2 -3 4 -5 -6 -7 8 -9 10 11 12 0\nend 4\n";
 
-const ACCEPTED: &[(&str, &str)] = &[
+pub(super) const ACCEPTED: &[(&str, &str)] = &[
     ("p inccnf", "end 0\n"),
     (
         "p inccnf\n1 2 0\n-1 0\na 0\n",
@@ -56,7 +56,7 @@ const ACCEPTED: &[(&str, &str)] = &[
 
 const UNFINISHED: &str = "j 1 SATISFIABLE\nv 1 0\nrefused 4 unfinished\n";
 
-const REFUSED: &[(&str, &str)] = &[
+pub(super) const REFUSED: &[(&str, &str)] = &[
     ("", "refused 1 header\n"),
     ("p cnf 2 1\n1 0\n", "refused 1 header\n"),
     ("p inccnf\n1 0\na 0\n2 3\n", UNFINISHED),

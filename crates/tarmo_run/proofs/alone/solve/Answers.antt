@@ -21,8 +21,9 @@ returns-clause-finished g c =
     × (g.O.Sink.taken c.close.new.out
     ≡ appended (g.O.Sink.taken c.show_blocks.new.out) (last_line_of told)))
     _
-    (λ told h. finished _ c.in_ok-ending.ending told _ _ _ _ c.show_blocks.new.desk
-    c.close_input.new.board _ _ _ c.in_ok-ending.ensures.through
+    (λ told h. finished _ c.in_ok-ending.ending told _ _ _ _ c.show_blocks.new.desk.writer
+    c.show_blocks.new.desk.board c.close_input.new.board _ _ _ c.in_ok-ending.ensures.through
+    c.in_ok-ending.ensures.answered
     (c.in_ok-ending.ensures.writes _ (none_written _ _ _ c.requires.fresh))
     c.show_blocks.ensures.between.counted.few c.close_input.ensures.more
     (c.close_input.ensures.cancelled ∙ c.show_blocks.ensures.between.none_cancelled) h.0 h.1)
@@ -31,8 +32,9 @@ returns-clause-finished g c =
 pub returns-clause-front : goal.returns-clause-front
 returns-clause-front g c =
     on_err_weaker c.close.result
-    (finished_in_line _ c.in_ok-ending.ending _ _ _ _ c.show_blocks.new.desk
-    c.close_input.new.board _ _ _ c.in_ok-ending.ensures.through
+    (finished_in_line _ c.in_ok-ending.ending _ _ _ _ c.show_blocks.new.desk.writer
+    c.show_blocks.new.desk.board c.close_input.new.board _ _ _ c.in_ok-ending.ensures.through
+    c.in_ok-ending.ensures.answered
     (c.in_ok-ending.ensures.writes _ (none_written _ _ _ c.requires.fresh))
     c.show_blocks.ensures.between.counted.few c.close_input.ensures.more)
     c.close.ensures.front

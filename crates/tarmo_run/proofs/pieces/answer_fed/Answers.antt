@@ -1,12 +1,5 @@
-use Rattle.tarmo_run.specs.Client.{clauses_on}
 use Rattle.tarmo_run.proofs.Reached.{written_still}
-use Rattle.tarmo_run.proofs.Variables.{within_front}
 use Rattle.tarmo_run.proofs.pieces.answer_fed.Goals as goal
-
-pub write_settled-requires-clause-within : goal.write_settled-requires-clause-within
-write_settled-requires-clause-within g c =
-    within_front (clauses_on c.advance-advanced.new.self.board)
-    c.advance-advanced.new.self.client.pending.items c.advance-advanced.ensures.between.within
 
 pub returns-in-Ok-clause-writes : goal.returns-in-Ok-clause-writes
 returns-in-Ok-clause-writes g c = λ before took.

@@ -4,12 +4,15 @@ use Rattle.icnf_text.specs.Judgement.{wrong}
 use Rattle.tarmo_run.specs.Client.{queries_on}
 use Rattle.tarmo_run.specs.Output.{queries_in}
 use Rattle.tarmo_run.specs.Reading.{AsksFirst}
+use Rattle.tarmo_run.specs.Desk.{progress_of}
+use Rattle.tarmo_run.proofs.Desks.{new_at_first}
 use Rattle.tarmo_run.proofs.Results.{on_ok_always}
 use Rattle.tarmo_run.proofs.Sums.{asks_none}
 use Rattle.tarmo_run.proofs.sum.settle_sum.Goals as goal
 
 pub returns-in-Err-clause-first : goal.returns-in-Err-clause-first
-returns-in-Err-clause-first c = asks_none _ _ c.requires.fresh
+returns-in-Err-clause-first c =
+    asks_none (progress_of c.args.desk.now) _ (new_at_first _ c.requires.fresh)
 
 pub returns-in-Ok-clause-first : goal.returns-in-Ok-clause-first
 returns-in-Ok-clause-first c =

@@ -1,18 +1,6 @@
 use Rattle.tarmo_run.proofs.Adding.{adds_cube}
 use Rattle.tarmo_run.proofs.Results.{on_ok_weaker}
-use Rattle.tarmo_run.proofs.Variables.{within_added, within_kept}
 use Rattle.tarmo_run.proofs.client.Client.add.Goals as goal
-
-pub returns-in-Clause-clause-within : goal.returns-in-Clause-clause-within
-returns-in-Clause-clause-within c =
-    within_kept c.keep.result c.args.self.now c.keep.new.self c.args.board.now _
-    c.keep.ensures.set c.keep.ensures.kept c.keep.ensures.err c.requires.within
-
-pub returns-in-Cube-clause-within : goal.returns-in-Cube-clause-within
-returns-in-Cube-clause-within c =
-    within_added c.add_job.result c.args.self.now c.add_job.new.self c.args.board.now
-    c.add_job.new.board _ c.add_job.ensures.added c.add_job.ensures.err c.add_job.ensures.none_left
-    c.requires.within
 
 pub returns-in-Cube-clause-all : goal.returns-in-Cube-clause-all
 returns-in-Cube-clause-all c =

@@ -11,7 +11,6 @@ loop-numbered-preserved c =
     record {
       can = tt;
       ends = tt;
-      within = c.add.ensures.within;
       more = jobs_on _ _ _ c.loop-numbered.invariant.more c.add.ensures.more;
       adds = one_added _ _ _ _ _ _ _ _ _ c.in-Some.numbered next c.loop-numbered.invariant.adds
           c.in_ok-add.ensures.all;

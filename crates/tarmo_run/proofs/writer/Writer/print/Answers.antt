@@ -1,53 +1,45 @@
-use Rattle.std.proofs.Common.{◌≡◌, ◌+◌, length, arith}
-use Rattle.entry_core.specs.Journal.{inputs_of}
-use Rattle.tarmo_run.proofs.Blocks.{block_printable, block_right, inputs_counted, inputs_few}
+use Rattle.std.proofs.Common.{◌∙◌, ◌+◌, ℕ, List, length, ap, arith, subst, sym}
+use Rattle.sat_base.specs.Lit.{IsLitSet}
+use Rattle.entry_core.specs.declared.segments.Segment.{Segment}
+use Rattle.verdict_text.specs.Block.{IsBlock, IsPrintable, shown_of}
+use Rattle.tarmo_run.specs.Variables.{AreWithinVariables}
+use Rattle.tarmo_run.proofs.Blocks.{due_counted, due_few, due_printable, due_right}
 use Rattle.tarmo_run.proofs.writer.Writer.print.Goals as goal
 
 pub overflow_add-inputs : goal.overflow_add-inputs
 overflow_add-inputs c =
-    let counted : c.args.self.now.inputs + length c.items.result.now
-    ≡ length (inputs_of c.args.board.now.journal c.args.job) =
-    rw c.items.ensures (rw c.deref-2.ensures (inputs_counted c.args.board.now.journal
-    c.args.self.now.written c.args.job c.args.self.now.inputs _ c.requires.due.next
-    c.in_ok-segment.ensures c.requires.counted.inputs)) in
-    let few = inputs_few c.args.board.now c.args.job _ c.journal.ensures.legal counted in
-    omega (arith, few)
+    let same = c.items-clauses.ensures ∙ ap (λ (s : Segment). s.clauses) c.deref.ensures in
+    let few = due_few c.args.self.now c.requires.due.0 c.args.due.now c.requires.due.1 in
+    omega (arith, few, ap length same)
 
 pub block-requires-clause-inputs : goal.block-requires-clause-inputs
 block-requires-clause-inputs c =
-    let counted : c.args.self.now.inputs + length c.items.result.now
-    ≡ length (inputs_of c.args.board.now.journal c.args.job) =
-    rw c.items.ensures (rw c.deref-2.ensures (inputs_counted c.args.board.now.journal
-    c.args.self.now.written c.args.job c.args.self.now.inputs _ c.requires.due.next
-    c.in_ok-segment.ensures c.requires.counted.inputs)) in
-    inputs_few c.args.board.now c.args.job _ c.journal.ensures.legal counted
+    let same = c.items-clauses.ensures ∙ ap (λ (s : Segment). s.clauses) c.deref.ensures in
+    let few = due_few c.args.self.now c.requires.due.0 c.args.due.now c.requires.due.1 in
+    omega (arith, few, ap length same)
 
 pub block-requires-clause-printable : goal.block-requires-clause-printable
 block-requires-clause-printable c =
-    let counted : c.args.self.now.inputs + length c.items.result.now
-    ≡ length (inputs_of c.args.board.now.journal c.args.job) =
-    rw c.items.ensures (rw c.deref-2.ensures (inputs_counted c.args.board.now.journal
-    c.args.self.now.written c.args.job c.args.self.now.inputs _ c.requires.due.next
-    c.in_ok-segment.ensures c.requires.counted.inputs)) in
-    block_printable c.args.trace c.args.board.now c.args.job _ c.args.verdict.now _
-    c.verdicts_have_causes.ensures c.journal.ensures.legal c.requires.within c.requires.due.verdict
-    counted c.in_ok-segment.ensures (rw c.deref.ensures at c.lits.ensures.set)
+    let same = c.items-clauses.ensures ∙ ap (λ (s : Segment). s.clauses) c.deref.ensures in
+    subst (λ (list : List (List ℕ)). IsPrintable (c.args.self.now.inputs + length list)
+    (shown_of c.args.trace c.args.due.now.verdict)) (sym same)
+    (due_printable c.args.trace c.args.self.now c.requires.due.0 c.args.due.now
+    c.verdicts_have_causes.ensures c.requires.due.1
+    (subst AreWithinVariables same c.look_at_each.ensures)
+    (subst (λ (s : Segment). IsLitSet s.cube) c.deref-2.ensures c.lits.ensures.set))
 
 pub returns-clause-inputs : goal.returns-clause-inputs
-returns-clause-inputs c =
-    let counted : c.args.self.now.inputs + length c.items.result.now
-    ≡ length (inputs_of c.args.board.now.journal c.args.job) =
-    rw c.items.ensures (rw c.deref-2.ensures (inputs_counted c.args.board.now.journal
-    c.args.self.now.written c.args.job c.args.self.now.inputs _ c.requires.due.next
-    c.in_ok-segment.ensures c.requires.counted.inputs)) in
-    counted
+returns-clause-inputs c = λ board is.
+    let same = c.items-clauses.ensures ∙ ap (λ (s : Segment). s.clauses) c.deref.ensures in
+    ap (λ (list : List (List ℕ)). c.args.self.now.inputs + length list) same
+    ∙ due_counted c.args.self.now board c.args.due.now is
 
 pub returns-clause-text : goal.returns-clause-text
-returns-clause-text c =
-    let counted : c.args.self.now.inputs + length c.items.result.now
-    ≡ length (inputs_of c.args.board.now.journal c.args.job) =
-    rw c.items.ensures (rw c.deref-2.ensures (inputs_counted c.args.board.now.journal
-    c.args.self.now.written c.args.job c.args.self.now.inputs _ c.requires.due.next
-    c.in_ok-segment.ensures c.requires.counted.inputs)) in
-    block_right c.args.trace c.args.board.now c.args.job _ c.args.verdict.now _
-    c.requires.due.verdict counted c.in_ok-text.ensures
+returns-clause-text c = λ board is.
+    let same = c.items-clauses.ensures ∙ ap (λ (s : Segment). s.clauses) c.deref.ensures in
+    due_right c.args.trace c.args.self.now board c.args.due.now c.in_ok-text.text.items is
+    (subst (λ (list : List (List ℕ)). IsBlock (c.args.self.now.inputs + length list)
+    (record {
+      job = c.args.due.now.job;
+      shown = shown_of c.args.trace c.args.due.now.verdict;
+    }) c.in_ok-text.text.items) same c.in_ok-text.ensures)
