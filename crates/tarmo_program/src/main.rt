@@ -1,13 +1,12 @@
 //! The program `tarmo`: makes the real source and sink, calls the run and ends with its status.
 //!
-//! Everything that the program promises is the contract of `run_alone`. It knows no text and no
-//! answer.
+//! Everything that the program promises is the contract of `run`. It knows no text and no answer.
 #![tactic(auto)]
 
-use run_io::{StdSink, StdSource};
+use run_io::{NoGate, StdSink, StdSource};
 use std::process::ExitCode;
 use std::{env, io};
-use tarmo_run::{NO_MEMORY, WORDS_REFUSED, run_alone};
+use tarmo_run::{NO_MEMORY, WORDS_REFUSED, run};
 use words::{WordsFault, usage};
 
 fn main(rt: HostRuntime) -> ExitCode {
@@ -15,7 +14,7 @@ fn main(rt: HostRuntime) -> ExitCode {
         Ok(words) => {
             let mut source = StdSource::new(&rt);
             let mut sink = StdSink::new(&rt);
-            run_alone(rt.alloc(), &words, &mut source, &mut sink).status
+            run(&rt, rt.alloc(), &words, &mut source, &mut sink, &NoGate).status
         }
         Err(fault) if fault.kind() == io::ErrorKind::OutOfMemory => NO_MEMORY,
         // A word that is no UTF-8 is a word all the same.
