@@ -132,6 +132,41 @@ impl Heap {
         }
     }
 
+    // The same from the last variable on: where a later one comes first, none has to move up then.
+    fn push_from_last(&mut self, from: u32)
+        requires { IsHeap self.old.items.items self.old.order.items self.old.count }
+        ensures heap { IsHeap self.new.items.items self.new.order.items self.new.count }
+        ensures keys { HasSameKeys self.old.items.items self.new.items.items }
+        ensures above { AreIn self.new.items.items self.new.count from
+            (length self.old.items.items) }
+        ensures waits { (var : ℕ) → IsIn self.old.items.items self.old.count var
+            → IsIn self.new.items.items self.new.count var }
+    {
+        let mut var = self.items.len() as u32;
+        while var > from {
+            self.push(var);
+            var -= 1;
+        }
+    }
+
+    // Puts the variables above `from` into the heap, those first that come first where all scores
+    // are equal.
+    fn enter(&mut self, from: u32, at_end: bool)
+        requires { IsHeap self.old.items.items self.old.order.items self.old.count }
+        ensures heap { IsHeap self.new.items.items self.new.order.items self.new.count }
+        ensures keys { HasSameKeys self.old.items.items self.new.items.items }
+        ensures above { AreIn self.new.items.items self.new.count from
+            (length self.old.items.items) }
+        ensures waits { (var : ℕ) → IsIn self.old.items.items self.old.count var
+            → IsIn self.new.items.items self.new.count var }
+    {
+        if at_end {
+            self.push_from_last(from);
+        } else {
+            self.push_above(from);
+        }
+    }
+
     // Divides all scores and puts all variables into the heap, since ranks may decide now where
     // scores did.
     pub(crate) fn scale_down(&mut self)
@@ -201,7 +236,7 @@ impl Heap {
         self.order.resize(vars as usize, 0)?;
         self.items.resize(vars as usize, Item::none())?;
         self.fill(len, at_end);
-        self.push_above(len as u32);
+        self.enter(len as u32, at_end);
         Ok(())
     }
 

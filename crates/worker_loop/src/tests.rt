@@ -192,8 +192,8 @@ fn answer(
 const MODELS: &[(&[&[i32]], &[i32], &[bool])] = &[
     (&[], &[], &[]),
     (&[], &[-2, 1], &[true, false]),
-    (&[&[1, 2]], &[], &[false, true]),
-    (&[&[1, 2]], &[4], &[false, true, false, true]),
+    (&[&[1, 2]], &[], &[true, false]),
+    (&[&[1, 2]], &[4], &[true, false, false, true]),
 ];
 
 #[test]
@@ -296,7 +296,7 @@ fn a_spent_budget_leaves_what_was_learnt(rt: HostRuntime) -> Result<(), Fail> {
     };
     assert_eq!(rt; learnt.items().len(), 1);
     let clause = &learnt.items()[0];
-    assert_eq!(rt; clause.lits(), lits(alloc, &rt, &[-2])?.as_slice());
+    assert_eq!(rt; clause.lits(), lits(alloc, &rt, &[-5])?.as_slice());
     let [number] = bench.session.learnt() else {
         panic!(rt; "not one learnt clause");
     };

@@ -58,7 +58,7 @@ pub(super) const TRACED: &[Case<'static>] = &[
     },
     Case {
         words: "--trace",
-        text: "p inccnf\n1 2 0\na 1 0\n",
+        text: "p inccnf\n1 2 0\n-1 -2 0\na 1 0\n",
         output: "j 1 SATISFIABLE\nv 1 -2 0\nend 1\n",
         outcomes: FIRST,
         ..PLAIN

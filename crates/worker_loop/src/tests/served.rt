@@ -124,8 +124,8 @@ fn assert_worked<R: Threads + Wait + Sync + Abort>(
 // of one clause the pigeons aren't refuted yet.
 const JOBS: &[(&[&[i32]], u64, Outcome, &[&[i32]])] = &[
     (&[&[1, 2], &[-1]], 1, Outcome::Model, &[]),
-    (PIGEONS, 1, Outcome::Spent, &[&[-2]]),
-    (PIGEONS, 2, Outcome::Refuted, &[&[-2]]),
+    (PIGEONS, 1, Outcome::Spent, &[&[-5]]),
+    (PIGEONS, 2, Outcome::Refuted, &[&[-5]]),
 ];
 
 #[test]

@@ -4,8 +4,8 @@ use Rattle.pick_core.specs.Heap.{IsHeap, item_in, var_at}
 use Rattle.pick_core.proofs.Filled.{longer_heap, front, IsLonger}
 use Rattle.pick_core.proofs.heap.Heap.reserve.Goals as goal
 
-pub push_above-requires : goal.push_above-requires
-push_above-requires c =
+pub enter-requires : goal.enter-requires
+enter-requires c =
     let f = c.fill.ensures.filled in
     let len : c.len-len.result ≡ length c.args.self.now.items.items = omega (arith, c.len-len.ensures) in
     let size : length c.resize-2.new.self.items ≡ c.args.vars = omega (arith, c.in_ok-resize-2.ensures.len) in
