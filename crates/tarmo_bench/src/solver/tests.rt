@@ -15,9 +15,9 @@ a -1 0
 a 0
 ";
 
-// The first cube is decided and forces 2, which is a model. For the second one -1 is decided and
-// forces 2, -4, -6, 3 and 5, until -3 -5 is false. That teaches -2, which level 0 is given and
-// which forces 1, -3, -5, 4 and 6 there, until -4 -6 is false: the pigeons are refuted.
+// The first cube is decided and forces 2, which is a model. For the second one -6 is decided and
+// forces 5, -1, -3, 2 and 4, until -2 -4 is false. That teaches -5, which level 0 is given and
+// which forces 6, -2, -4, 1 and 3 there, until -1 -3 is false: the pigeons are refuted.
 #[test]
 fn two_jobs_about_pigeons_are_counted(rt: HostRuntime) -> Result<(), Fail> {
     let mut reader = Reader::new(rt.alloc());
