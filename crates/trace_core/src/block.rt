@@ -72,6 +72,21 @@ impl KnownClauses {
         Ok(())
     }
 
+    /// How many clauses there are.
+    pub(crate) fn len(&self) -> usize
+        ensures { result ≡ length self.now }
+    {
+        self.places.len()
+    }
+
+    /// Takes all clauses away, and keeps their memory.
+    pub(crate) fn clear(&mut self)
+        ensures { self.new ≡ [] }
+    {
+        self.lits.clear();
+        self.places.clear();
+    }
+
     /// The clause of that number, counted from 1, if there is one.
     pub(crate) fn get(&self, number: u64) -> Option<KnownClause<'_>>
         ensures { MatchOption result (item_at self.now number ≡ None)

@@ -98,4 +98,21 @@ impl Checker {
         self.database.steps.push(lits, step.tag)?;
         Ok(true)
     }
+
+    /// How many input clauses there are.
+    pub fn input_count(&self) -> usize
+        ensures { result ≡ length self.now.inputs }
+    {
+        self.database.inputs.len()
+    }
+
+    /// Forgets all steps: `Own` names none of them any more, and the next one that is added has the
+    /// number 1 again. The inputs stay, and further ones may be added. Keeps its memory, so that one
+    /// checker serves many derivations over growing inputs.
+    pub fn forget_steps(&mut self)
+        ensures inputs { self.new.inputs ≡ self.old.inputs }
+        ensures steps { self.new.steps ≡ [] }
+    {
+        self.database.steps.clear();
+    }
 }

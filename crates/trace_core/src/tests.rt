@@ -1,5 +1,7 @@
 //! The rows of single calls, and steps that are not ok.
 
+ghost use Rattle.std.specs.Prelude.{◌≡◌, [], length, IfOk};
+
 use crate::{Checker, Hints, Packet, Step, Steps};
 use sat_base::Ref::{Input, Own, Shared};
 use sat_base::{Clause, Lit, Ref};
@@ -211,6 +213,44 @@ fn tags_are_those_of_the_hints(rt: HostRuntime) -> Result<(), Fail> {
     assert!(rt; checker.check(&second)?);
     assert!(rt; !checker.check(&low)?);
     assert!(rt; checker.check(&third)?);
+    Ok(())
+}
+
+#[test]
+fn forgotten_steps_are_unknown(rt: HostRuntime) -> Result<(), Fail> {
+    let alloc = rt.alloc();
+    let mut checker = with_pigeons(alloc)?;
+    let hints = [Input(4), Input(5), Input(2), Input(3), Input(9)];
+    let first = step_of(alloc, &[-1], &hints, 1)?;
+    let citing = step_of(alloc, &[2], &[Own(1), Input(1)], 1)?;
+    assert!(rt; checker.check(&first)?);
+    checker.forget_steps();
+    assert!(rt; !checker.check(&citing)?);
+    assert!(rt; checker.check(&first)?);
+    assert!(rt; checker.check(&citing)?);
+    Ok(())
+}
+
+// A checker of one input that has forgotten a step.
+fn with_one_forgotten(alloc: Global) -> Result<Checker, Fail>
+    ensures steps { IfOk result (λ checker. checker.steps ≡ []) }
+    ensures inputs { IfOk result (λ checker. length checker.inputs ≡ 1) }
+{
+    let mut checker = Checker::new(alloc);
+    checker.add_input(&clause_of(alloc, &[1])?, 1)?;
+    let _ = checker.check(&step_of(alloc, &[1], &[Input(1)], 1)?)?;
+    checker.forget_steps();
+    Ok(checker)
+}
+
+#[test]
+fn inputs_are_added_behind_forgotten_steps(rt: HostRuntime) -> Result<(), Fail> {
+    let alloc = rt.alloc();
+    let mut checker = with_one_forgotten(alloc)?;
+    checker.add_input(&clause_of(alloc, &[-1, 2])?, 1)?;
+    let step = step_of(alloc, &[2], &[Input(1), Input(2)], 1)?;
+    assert!(rt; checker.check(&step)?);
+    assert_eq!(rt; checker.input_count(), 2);
     Ok(())
 }
 
