@@ -1,15 +1,21 @@
 -- What an audit takes from a text, statement by statement.
-use Rattle.std.proofs.Common.{◌≡◌, ◌∙◌, ℕ, ◌+◌, ◌<◌, ◌≤◌, List, [], ◌∷◌, ◌++◌, map, length, take, refl, sym, ap, arith, zero, suc, append-nil}
-use Rattle.std.specs.Prelude.{max, Option, true, false}
-use Rattle.std.proofs.lemmas.List.{length-append, length-map, map-append}
+use Rattle.std.proofs.Common.{◌≡◌, ◌∙◌, ℕ, ◌+◌, ◌<◌, ◌≤◌, List, [], ◌∷◌, ◌++◌, map, length, take, drop, refl, sym, ap, subst, arith, zero, suc, append-nil, length-drop}
+use Rattle.std.specs.Prelude.{max, Option, true, false, ◌-◌, Result, Ok, Err, IfOk}
+use Rattle.std.proofs.lemmas.List.{length-append, length-map, map-append, take_at, take_all, take-take, take-append-drop, length-take}
 use Rattle.sat_base.specs.Lit.{greatest_of, variables}
 use Rattle.sat_base.proofs.Greatest.{greatest_all_push}
 use Rattle.icnf_text.specs.declared.faults.Fault.{Fault}
 use Rattle.icnf_text.specs.declared.statements.Numbered.{Numbered}
 use Rattle.icnf_text.specs.Judgement.{statements, wrong}
-use Rattle.verdict_audit.specs.Audit.{tags_of}
-use Rattle.verdict_audit.specs.Case.{Case, Query, case_after, case_of, known_of_clause}
-use Rattle.verdict_audit.specs.Problem.{IsJobOver, IsTaken, query_in}
+use Rattle.trace_core.specs.Known.{Known}
+use Rattle.trace_core.specs.Checked.{Checked}
+use Rattle.verdict_audit.specs.Audit.{HasJob, tags_of}
+use Rattle.verdict_audit.specs.Case.{Case, Query, case_after, case_of, clauses_of, known_of_clause, query_of}
+use Rattle.verdict_audit.specs.Problem.{IsJobOver, IsSpare, IsTaken, query_in}
+use Rattle.verdict_audit.specs.Proof.{Proof}
+use Rattle.verdict_audit.specs.declared.places.Place.{Place}
+use Rattle.verdict_audit.specs.declared.places.Place.TheVariants as place
+use Rattle.verdict_audit.specs.declared.places.Tally.{Tally}
 use Rattle.verdict_audit.specs.declared.taking.Job.{Job}
 
 -- ---- tags
@@ -26,6 +32,43 @@ ones_of (clause ∷ clauses) = ap (λ ts. 1 ∷ ts) (ones_of clauses)
 
 pub tags_front : (clauses : List (List ℕ)) (tags : List ℕ) (n : ℕ) → tags ≡ map (λ (clause : List ℕ). 1) clauses → take n tags ≡ tags_of (map known_of_clause (take n clauses))
 tags_front clauses tags n is = ap (take n) is ∙ take_map (λ (clause : List ℕ). 1) clauses n ∙ ones_of (take n clauses)
+
+-- ---- the spare checker
+
+-- what the spare checker lacks of these clauses, put behind what it has
+pub spare_grown : (case : Case) (spare : Checked) (clauses : List (List ℕ)) (held n : ℕ) → IsSpare case spare → clauses ≡ take n case.clauses → held ≡ length spare.inputs → held ≤ length clauses
+    → spare.inputs ++ map known_of_clause (take (length clauses - held) (drop held clauses)) ≡ map known_of_clause clauses
+spare_grown case spare clauses held n is some size le =
+    let count : length is.front ≡ held = sym (size ∙ ap length is.inputs ∙ length-map is.front known_of_clause) in
+    let within : held ≤ n = omega (arith, ap length some, length-take n case.clauses) in
+    let same : take held clauses ≡ is.front = ap (take held) some ∙ take-take held n case.clauses within ∙ ap (take held) is.split ∙ take_at is.front is.rest held count in
+    let behind : take (length clauses - held) (drop held clauses) ≡ drop held clauses = take_all (length clauses - held) (drop held clauses) (omega (arith, length-drop held clauses)) in
+    ap (λ (ks : List Known). ks ++ map known_of_clause (take (length clauses - held) (drop held clauses))) (is.inputs ∙ ap (map known_of_clause) (sym same))
+    ∙ ap (λ (cs : List (List ℕ)). map known_of_clause (take held clauses) ++ map known_of_clause cs) behind
+    ∙ sym (map-append known_of_clause (take held clauses) (drop held clauses))
+    ∙ ap (map known_of_clause) (take-append-drop held clauses)
+
+pub room_left : (grown inputs : List Known) (clauses : List (List ℕ)) (i : ℕ) → i < length clauses → grown ++ map known_of_clause (drop i clauses) ≡ inputs ++ map known_of_clause clauses → length inputs + length clauses ≤ 16777216 → length grown < 16777216
+room_left grown inputs clauses i lt is room =
+    omega (arith, ap length is, length-append grown (map known_of_clause (drop i clauses)), length-append inputs (map known_of_clause clauses), length-map (drop i clauses) known_of_clause, length-map clauses known_of_clause, length-drop i clauses)
+
+pub if_ok : {X E : Type 0} (r : Result X E) (P Q : X → Type 0) → ((x : X) → P x → Q x) → IfOk r P → IfOk r Q
+if_ok (Ok x) P Q weaker holds = weaker x holds
+if_ok (Err e) P Q weaker holds = holds
+
+pub fresh_spare : (case : Case) (checker : Checked) → checker.inputs ≡ [] → checker.steps ≡ [] → IsSpare case checker
+fresh_spare case checker inputs steps = record { front = []; rest = case.clauses; split = refl; inputs = inputs; steps = steps }
+
+pub given_back : (case : Case) (tally : Tally) (proof : Proof) (at : Place) (checker : Checked) → place.Step proof ≡ at → HasJob case tally at → checker.inputs ≡ proof.inputs → checker.steps ≡ [] → IsSpare case checker
+given_back case tally proof at checker is job inputs steps =
+    let there = subst (HasJob case tally) (sym is) job in
+    record {
+      front = clauses_of case tally.begun;
+      rest = drop (query_of case tally.begun).inputs case.clauses;
+      split = sym (take-append-drop (query_of case tally.begun).inputs case.clauses);
+      inputs = inputs ∙ there.2;
+      steps = steps;
+    }
 
 -- ---- one clause more
 

@@ -4,6 +4,7 @@ ghost use Rattle.std.specs.Prelude.{◌≡◌, ◌<◌, ◌+◌, ◌^◌, ◌≢
 ghost use Rattle.std.specs.Prelude.{Err};
 ghost use Rattle.verdict_audit.specs.Audit.{Audits, Ends, Finds, HasJob, Steps, found, is_beyond};
 ghost use Rattle.verdict_audit.specs.Audit.{start};
+ghost use Rattle.verdict_audit.specs.Problem.{IsSpare};
 ghost use Rattle.verdict_audit.specs.declared.findings.Wrong.TheVariants as wrong;
 ghost use Rattle.line_tokens.specs.Token.{lines_of};
 
@@ -14,6 +15,7 @@ use crate::problem::Problem;
 use crate::{Finding, Flaw};
 use line_tokens::cut_at;
 use std::alloc::{AllocError, Global};
+use trace_core::Checker;
 
 /// The greatest number of bytes of a text and of an output.
 const MOST_BYTES: usize = 4_294_967_296;
@@ -43,29 +45,33 @@ fn step(
     alloc: Global,
     problem: &Problem,
     tally: &mut Tally,
+    spare: &mut Checker,
     place: Place,
     before: usize,
     line: &[u8],
 ) -> Result<Place, Wrong>
     requires small { before + (length line.now + 1) < 2 ^ 64 }
     requires job { HasJob problem.now tally.old place }
+    requires spare { IsSpare problem.now spare.old }
     ensures outcome { MatchResult result
         (λ next. Steps problem.now tally.old place before line.now
         (Ok (record { tally = tally.new; place = next }))) (λ why. (why ≡ wrong.Memory)
         ⊎ Steps problem.now tally.old place before line.now (Err why)) }
     ensures job { IfOk result (λ next. HasJob problem.now tally.new next) }
+    ensures spare { IfOk result (λ _. IsSpare problem.now spare.new) }
 {
-    let place = close(alloc, place, line)?;
+    let place = close(alloc, spare, place, line)?;
     if is_beyond(before, line.len() + 1) {
         return Err(Wrong::Line(Flaw::TooLong));
     }
-    take_line(alloc, problem, tally, place, line)
+    take_line(alloc, problem, tally, spare, place, line)
 }
 
 // Takes the end of the output, behind these bytes without a line feed.
 fn end(
     alloc: Global,
     tally: Tally,
+    mut spare: Checker,
     place: Place,
     before: usize,
     rest: &[u8],
@@ -74,7 +80,7 @@ fn end(
     ensures { MatchResult result (λ finding. Ends tally place before rest.now (Ok finding))
         (λ why. (why ≡ wrong.Memory) ⊎ Ends tally place before rest.now (Err why)) }
 {
-    let place = close(alloc, place, rest)?;
+    let place = close(alloc, &mut spare, place, rest)?;
     if is_beyond(before, rest.len()) {
         return Err(Wrong::Line(Flaw::TooLong));
     }
@@ -96,12 +102,13 @@ fn audit_lines(alloc: Global, problem: &Problem, output: &[u8]) -> Result<Findin
         proved: 0,
         unproved: 0,
     };
+    let mut spare = Checker::new(alloc);
     let mut place = Place::Block;
     let mut number = 1;
     let mut before = 0;
     let mut rest = output;
     while let Some((line, more)) = cut_at(rest, b'\n') {
-        place = match step(alloc, problem, &mut tally, place, before, line) {
+        place = match step(alloc, problem, &mut tally, &mut spare, place, before, line) {
             Ok(next) => next,
             Err(why) => return found(number, why),
         };
@@ -109,7 +116,7 @@ fn audit_lines(alloc: Global, problem: &Problem, output: &[u8]) -> Result<Findin
         before += line.len() + 1;
         rest = more;
     }
-    match end(alloc, tally, place, before, rest) {
+    match end(alloc, tally, spare, place, before, rest) {
         Ok(good) => Ok(good),
         Err(why) => found(number, why),
     }
@@ -125,8 +132,9 @@ fn audit_lines(alloc: Global, problem: &Problem, output: &[u8]) -> Result<Findin
 /// negated literals. One last line must follow. `end` and `refused` must say what the text says,
 /// behind the blocks of all jobs; `fault read` and `memory` may stand behind any number of blocks.
 ///
-/// Takes memory for the text's clauses and for one block with a checker, and time in proportion to
-/// the output and, for each block with a model or a part, to the literals of the job's clauses.
+/// Takes memory for the text's clauses, for a checker of them and for one block, and time in
+/// proportion to the text, to the output and, for each block with a model, to the literals of the
+/// job's clauses.
 pub fn audit(alloc: Global, icnf: &[u8], output: &[u8]) -> Result<Finding, AllocError>
     ensures { IfOk result (λ finding. Audits icnf.now output.now finding) }
 {

@@ -10,6 +10,7 @@ ghost use Rattle.verdict_audit.specs.Audit.{Closes, HasJob, JudgesLine, JudgesPa
 ghost use Rattle.verdict_audit.specs.Audit.{State, at_job_line, at_model, begun, one_more};
 ghost use Rattle.verdict_audit.specs.Audit.{with_proved, with_unproved, tags_of};
 ghost use Rattle.verdict_audit.specs.Case.{Case, clauses_of, cube_of, inputs_of, variables_of};
+ghost use Rattle.verdict_audit.specs.Problem.{IsSpare};
 ghost use Rattle.trace_text.specs.Text.{next_step};
 ghost use Rattle.verdict_audit.specs.declared.places.Place.TheVariants as place;
 ghost use Rattle.verdict_audit.specs.declared.places.Tally.{Tally};
@@ -23,6 +24,8 @@ use crate::places::{Place, Proof, Tally};
 use crate::problem::Problem;
 use sat_base::Lit;
 use std::alloc::Global;
+use std::mem;
+use trace_core::Checker;
 use trace_text::{TraceFault, read_step};
 use verdict_text::{
     JobLine, Status, is_trace_line, read_job_line, read_model_line, read_part_line,
@@ -143,15 +146,23 @@ fn is_within(part: &[Lit], cube: &[Lit]) -> bool
     at == part.len()
 }
 
-// Takes the part of the job whose block has begun.
-fn take_part(alloc: Global, problem: &Problem, tally: Tally, line: &[u8]) -> Result<Place, Wrong>
+// Takes the part of the job whose block has begun, and the spare checker for its proof.
+fn take_part(
+    alloc: Global,
+    problem: &Problem,
+    tally: Tally,
+    spare: &mut Checker,
+    line: &[u8],
+) -> Result<Place, Wrong>
     requires there { 0 < tally.begun }
     requires within { tally.begun ≤ length problem.now.queries }
+    requires spare { IsSpare problem.now spare.old }
     ensures outcome { MatchResult result
         (λ next. JudgesPart problem.now tally (part_line_of line.now)
         (Ok (record { tally = tally; place = next }))) (λ why. (why ≡ wrong.Memory)
         ⊎ JudgesPart problem.now tally (part_line_of line.now) (Err why)) }
     ensures job { IfOk result (λ next. HasJob problem.now tally next) }
+    ensures spare { IfOk result (λ _. IsSpare problem.now spare.new) }
 {
     let Some(part) = read_part_line(alloc, line)? else {
         return Err(Wrong::Line(Flaw::Form));
@@ -159,7 +170,8 @@ fn take_part(alloc: Global, problem: &Problem, tally: Tally, line: &[u8]) -> Res
     if !is_within(part.lits(), problem.cube(tally.begun).lits()) {
         return Err(Wrong::Line(Flaw::Part));
     }
-    let checker = problem.checker(alloc, tally.begun)?;
+    let held = mem::replace(spare, Checker::new(alloc));
+    let checker = problem.checker(alloc, tally.begun, held)?;
     Ok(Place::Step(Proof::begin(alloc, part, checker)))
 }
 
@@ -196,15 +208,18 @@ pub(crate) fn take_line(
     alloc: Global,
     problem: &Problem,
     tally: &mut Tally,
+    spare: &mut Checker,
     place: Place,
     line: &[u8],
 ) -> Result<Place, Wrong>
     requires job { HasJob problem.now tally.old place }
+    requires spare { IsSpare problem.now spare.old }
     ensures outcome { MatchResult result
         (λ next. JudgesLine problem.now tally.old place line.now
         (Ok (record { tally = tally.new; place = next }))) (λ why. (why ≡ wrong.Memory)
         ⊎ JudgesLine problem.now tally.old place line.now (Err why)) }
     ensures job { IfOk result (λ next. HasJob problem.now tally.new next) }
+    ensures spare { IfOk result (λ _. IsSpare problem.now spare.new) }
 {
     match place {
         Place::Block => match take_job_line(problem, tally, line) {
@@ -212,18 +227,27 @@ pub(crate) fn take_line(
             Err(flaw) => Err(Wrong::Line(flaw)),
         },
         Place::Model => take_model(alloc, problem, *tally, line),
-        Place::Part => take_part(alloc, problem, *tally, line),
+        Place::Part => take_part(alloc, problem, *tally, spare, line),
         Place::Step(proof) => take_step(alloc, problem, *tally, proof, line),
         Place::End => Err(Wrong::Line(Flaw::Form)),
     }
 }
 
-/// Ends the block of a part before a line that belongs to no trace.
-pub(crate) fn close(alloc: Global, place: Place, line: &[u8]) -> Result<Place, Wrong>
+/// Ends the block of a part before a line that belongs to no trace. Its checker is the spare one
+/// from then on.
+pub(crate) fn close(
+    alloc: Global,
+    spare: &mut Checker,
+    place: Place,
+    line: &[u8],
+) -> Result<Place, Wrong>
     ensures closed { MatchResult result (λ next. Closes place line.now (Ok next))
         (λ why. (why ≡ wrong.Memory) ⊎ Closes place line.now (Err why)) }
     ensures job { IfOk result
         (λ next. (case : Case) (tally : Tally) → HasJob case tally place → HasJob case tally next) }
+    ensures spare { IfOk result
+        (λ _. (case : Case) (tally : Tally)
+        → HasJob case tally place → IsSpare case spare.old → IsSpare case spare.new) }
 {
     match place {
         Place::Step(proof) => {
@@ -231,6 +255,7 @@ pub(crate) fn close(alloc: Global, place: Place, line: &[u8]) -> Result<Place, W
                 return Ok(Place::Step(proof));
             }
             if proof.is_refuted(alloc)? {
+                *spare = proof.into_checker();
                 Ok(Place::Block)
             } else {
                 Err(Wrong::Unproved)

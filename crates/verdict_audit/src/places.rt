@@ -88,6 +88,16 @@ impl Proof {
         }))
     }
 
+    /// The checker of the inputs, without the steps.
+    pub(crate) fn into_checker(self) -> Checker
+        ensures inputs { result.inputs ≡ self.inputs }
+        ensures steps { result.steps ≡ [] }
+    {
+        let mut checker = self.checker;
+        checker.forget_steps();
+        checker
+    }
+
     /// Whether the last step refutes the part.
     pub(crate) fn is_refuted(&self, alloc: Global) -> Result<bool, AllocError>
         ensures { IfOk result (λ holds. IsTrue holds ↔ IsRefuted self.now.part self.now.steps) }

@@ -1,12 +1,12 @@
 //! What an audit takes from an iCNF text.
 
-ghost use Rattle.std.specs.Prelude.{◌≡◌, ◌≤◌, ◌<◌, ◌-◌, ◌&&◌, [], List, ℕ, All, map, length};
-ghost use Rattle.std.specs.Prelude.{slice_index_or, IfOk};
+ghost use Rattle.std.specs.Prelude.{◌≡◌, ◌≤◌, ◌<◌, ◌+◌, ◌-◌, ◌&&◌, [], ◌++◌, List, ℕ, All, map};
+ghost use Rattle.std.specs.Prelude.{length, slice_index_or, IfOk};
 ghost use Rattle.sat_base.specs.Truth.{all_true, cube_true};
 ghost use Rattle.verdict_audit.specs.Audit.{tags_of};
 ghost use Rattle.verdict_audit.specs.Case.{Case, case_of, clauses_of, cube_of, inputs_of};
 ghost use Rattle.verdict_audit.specs.Case.{known_of_clause, variables_of};
-ghost use Rattle.verdict_audit.specs.Problem.{IsJobOver, query_in};
+ghost use Rattle.verdict_audit.specs.Problem.{IsJobOver, IsSpare, query_in};
 
 use crate::taking::{Job, Taken, last_line, take_all};
 use icnf_text::Reader;
@@ -78,17 +78,19 @@ fn job_at(jobs: &[Job], number: u64) -> &Job
     &jobs[(number - 1) as usize]
 }
 
-// A checker of these input clauses.
-fn checker_of(alloc: Global, clauses: &[Clause]) -> Result<Checker, AllocError>
-    requires { length clauses.now ≤ 16777216 }
-    ensures inputs { IfOk result (λ checker. checker.inputs ≡ map known_of_clause clauses.now) }
-    ensures steps { IfOk result (λ checker. checker.steps ≡ []) }
+// The checker with these clauses behind its inputs.
+fn with_inputs(checker: Checker, clauses: &[Clause]) -> Result<Checker, AllocError>
+    requires steps { checker.steps ≡ [] }
+    requires room { length checker.inputs + length clauses.now ≤ 16777216 }
+    ensures inputs { IfOk result
+        (λ grown. grown.inputs ≡ checker.inputs ++ map known_of_clause clauses.now) }
+    ensures steps { IfOk result (λ grown. grown.steps ≡ []) }
 {
-    let mut checker = Checker::new(alloc);
+    let mut grown = checker;
     for clause in clauses {
-        checker.add_input(clause, 1)?;
+        grown.add_input(clause, 1)?;
     }
-    Ok(checker)
+    Ok(grown)
 }
 
 // Whether the model makes each clause true.
@@ -157,15 +159,26 @@ impl Problem {
         satisfies(model, &self.clauses[..job.inputs], &job.cube)
     }
 
-    /// A checker of the input clauses of a job.
-    pub(crate) fn checker(&self, alloc: Global, number: u64) -> Result<Checker, AllocError>
+    /// Makes a checker of the input clauses of a job out of one of an earlier job, whose clauses
+    /// they begin with: only what is new is added.
+    pub(crate) fn checker(
+        &self,
+        alloc: Global,
+        number: u64,
+        spare: Checker,
+    ) -> Result<Checker, AllocError>
         requires there { 0 < number }
         requires within { number ≤ length self.now.queries }
+        requires spare { IsSpare self.now spare }
         ensures inputs { IfOk result (λ checker. checker.inputs ≡ inputs_of self.now number) }
         ensures steps { IfOk result (λ checker. checker.steps ≡ []) }
     {
-        let job = job_at(&self.jobs, number);
-        checker_of(alloc, &self.clauses[..job.inputs])
+        let inputs = &self.clauses[..job_at(&self.jobs, number).inputs];
+        let held = spare.input_count();
+        if held > inputs.len() {
+            return with_inputs(Checker::new(alloc), inputs);
+        }
+        with_inputs(spare, &inputs[held..])
     }
 
     /// The tags of the input clauses of a job.

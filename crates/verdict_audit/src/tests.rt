@@ -85,6 +85,31 @@ const REFUTED_OUTPUTS: [(&[u8], Finding); 26] = [
     (b"j 1 SATISFIABLE\nv 1 2 0\nend 1\n", Bad(2, Model)),
 ];
 
+// The second job's clauses begin with those of the first one.
+const GROWING: &[u8] = b"p inccnf\n1 0\n-1 2 0\na -2 0\n-2 3 0\na -3 0\n";
+
+const GROWING_OUTPUTS: [(&[u8], Finding); 3] = [
+    (
+        b"j 1 UNSATISFIABLE\nf -2 0\nt 3 2 0 1 2 0\n\
+          j 2 UNSATISFIABLE\nf -3 0\nt 4 3 0 1 2 3 0\nend 2\n",
+        Good {
+            proved: 2,
+            unproved: 0,
+        },
+    ),
+    // The second trace cites a step of the first one.
+    (
+        b"j 1 UNSATISFIABLE\nf -2 0\nt 3 2 0 1 2 0\nt 4 2 0 3 0\n\
+          j 2 UNSATISFIABLE\nf -3 0\nt 5 3 0 4 3 0\nend 2\n",
+        Bad(7, Trace),
+    ),
+    // The first trace cites an input of the second job.
+    (
+        b"j 1 UNSATISFIABLE\nf -2 0\nt 3 2 0 1 2 0\nt 4 3 0 2 3 0\n",
+        Bad(4, Trace),
+    ),
+];
+
 const SATISFIED: &[u8] = b"p inccnf\n1 2 0\n-1 0\na 0\n";
 
 const SATISFIED_OUTPUTS: [(&[u8], Finding); 4] = [
@@ -123,6 +148,11 @@ fn compare(
 #[test]
 fn outputs_with_a_refuted_part(rt: HostRuntime) -> Result<(), Fail> {
     compare(rt.alloc(), &rt, REFUTED, &REFUTED_OUTPUTS)
+}
+
+#[test]
+fn outputs_with_two_refuted_parts(rt: HostRuntime) -> Result<(), Fail> {
+    compare(rt.alloc(), &rt, GROWING, &GROWING_OUTPUTS)
 }
 
 #[test]

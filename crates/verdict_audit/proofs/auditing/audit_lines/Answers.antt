@@ -15,6 +15,7 @@ loop-line-preserved c =
       whole = λ finding finds. c.loop-line.invariant.whole finding (finds_line c.args.problem.now (record { tally = c.loop-line.tally; place = c.loop-line.place }) c.loop-line.number c.loop-line.before (λ b. b == 10) c.loop-line.rest.now c.in-Some.line.now c.in-Some.more.now
           (Ok (record { tally = c.step.new.tally; place = c.in-Ok.next })) finding (search rules) c.in-Ok.ensures.outcome finds);
       job = c.in-Ok.ensures.job;
+      spare = c.in-Ok.ensures.spare;
       number = omega (arith, c.loop-line.invariant.number, size);
       before = omega (arith, c.loop-line.invariant.before, size);
     }
