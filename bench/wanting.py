@@ -104,11 +104,11 @@ def main():
         plain = run_with(command, library, asked.file, folder, 0, 0)
         if plain.status != 0 or plain.wrong or plain.last == "memory":
             sys.exit(f"without a refusal: status {plain.status}, {plain.wrong or plain.last}")
-        step = max(1, plain.asked // asked.steps)
+        step = max(1, -(-plain.asked // asked.steps))
         for first in range(1, plain.asked + 1, step):
             run = run_with(command, library, asked.file, folder, first, first + asked.growths - 1)
-            ends[kind(run)] += 1
             found = fault(run, plain)
+            ends["wrong" if found else kind(run)] += 1
             if found:
                 wrong.append(f"growth {first}: {found}")
     print(f"{plain.asked} growths, {sum(ends.values())} runs:",
