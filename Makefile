@@ -6,7 +6,7 @@ JOBS ?= $(shell nproc)
 
 .PHONY: run try prove install examples test bench profile
 .PHONY: bench-reader bench-checker bench-trace bench-learning bench-board bench-lock bench-service
-.PHONY: bench-sums bench-layouts
+.PHONY: bench-sums bench-layouts bench-holds wanting
 
 # Proves what isn't proved yet, crates side by side, and says which; then builds the program and
 # solves FILE.
@@ -53,6 +53,14 @@ bench-layouts:
 # The twenty functions of the built program that take most instructions on FILE, by valgrind.
 profile:
 	bench/callgrind.py $(FILE)
+
+# Which share of its time a worker of the built program spends in holds of the board, by perf.
+bench-holds:
+	bench/holds.py
+
+# What the built program writes on FILE where one growth of its memory after the other is refused.
+wanting:
+	bench/wanting.py $(FILE)
 
 # The reader beside cat, a C loop, and the parsers of minisat and cadical where they are installed.
 bench-reader:

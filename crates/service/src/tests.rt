@@ -332,6 +332,11 @@ fn what_clients_read_beside_each_other_stays_so(rt: HostRuntime) -> Result<(), F
         service.cancel(&rt, &mut first, 1),
         Err(CancelFault::Settled(read.outcome))
     );
+    // Each of the two jobs has three entries by then.
+    let (closing, again, added) = closings(&rt, alloc, &service, &mut first, &mut second);
+    assert_eq!(rt; closing, Ok(()));
+    assert_eq!(rt; again, Err(7));
+    assert_eq!(rt; added, Err(AddFault::Closed(7)));
     assert_eq!(rt;
         service.try_result(&mut first, 3),
         Err(TryFault::NoSuchJob(2))
