@@ -1,3 +1,4 @@
 pub mod Always
+mod Inputs
 pub mod Laws
 pub mod Parts

@@ -1,5 +1,5 @@
 -- A source over a file or standard input.
-use Rattle.std.specs.Prelude.{ℕ, Bool, true, false, List, Option, Some, None}
+use Rattle.std.specs.Prelude.{◌&&◌, ℕ, Bool, true, false, not, List, Option, Some, None}
 use Rattle.run_io.specs.declared.std_source.Opened.{Opened}
 use Rattle.run_io.specs.declared.std_source.Opened.TheVariants as opened
 
@@ -11,6 +11,12 @@ pub record StdSourceState : Type 0 where
   pub remaining : Option (List ℕ)
   pub faults : ℕ
   pub ended : Bool
+
+-- Whether what is open, and a file or not, may be the input of this name: a file where there is a
+-- name, and standard input where there is none. Nobody knows which file the system opened.
+abbrev pub may_be : Bool → Bool → Option (List ℕ) → Bool
+may_be is_open is_file None = is_open && not is_file
+may_be is_open is_file (Some name) = is_open && is_file
 
 -- whether what is open is a file
 abbrev pub is_file_of : {F I : Type 0} → Option (Opened F I) → Bool

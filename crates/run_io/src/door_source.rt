@@ -1,6 +1,6 @@
 //! A source for tests whose reads need an answer, and a write, first.
 ghost use Rattle.std.specs.Prelude.{◌≡◌, ◌<◌, ◌≤◌, ◌||◌, ◌⊎◌, ◌++◌, None, IfOk, IsErr, OnErr};
-ghost use Rattle.std.specs.Prelude.{IsOk, length, take, drop, false};
+ghost use Rattle.std.specs.Prelude.{IsOk, length, take, drop, false, true};
 ghost use Rattle.run_io.specs.Bytes.{is_end};
 ghost use Rattle.run_io.specs.DoorSourceState.{IsBehindDoor};
 ghost use Rattle.run_io.specs.Fault.{one_more, HasCause};
@@ -12,13 +12,14 @@ use crate::{DoorGate, Failed, MemorySource, Source};
 use std::marker::Model;
 use std::sync::atomic::AtomicBool;
 use std::sync::atomic::Ordering::SeqCst;
+use std::thread;
 
-/// How often the second read looks whether the job was answered.
+/// How often a read looks whether its door is open.
 const LOOKS: u64 = 10_000_000;
 
 /// A source over bytes in memory with two doors. Its second read fails unless the job that the gate
-/// waits for was answered, which it waits for by 10,000,000 looks; its third read fails unless the
-/// sink has taken a write. A failed read takes nothing, and no other read fails. What comes is no
+/// waits for was answered, its third read unless the sink has taken a write, and each waits for that
+/// by 10,000,000 looks. A failed read takes nothing, and no other read fails. What comes is no
 /// meaning of the source as layers above see it, since nobody knows which doors will be open.
 #[derive(Drop)]
 pub struct DoorSource<'a> {
@@ -68,9 +69,20 @@ impl<'a> DoorSource<'a> {
     {
         match read {
             2 => self.gate.opens_within(LOOKS),
-            3 => self.written.load(SeqCst),
+            3 => self.is_written_within(LOOKS),
             _ => true,
         }
+    }
+
+    /// Looks at most so many times, and tells whether the sink had taken a write then.
+    fn is_written_within(&self, looks: u64) -> bool {
+        for _ in 0..looks {
+            if self.written.load(SeqCst) {
+                return true;
+            }
+            thread::yield_now();
+        }
+        false
     }
 }
 
@@ -80,6 +92,8 @@ impl<'a> Source for DoorSource<'a> {
     ghost faults = { λ s. s.faults };
 
     ghost ended = { λ s. s.bytes.ended };
+
+    ghost opened = { λ _ _. true };
 
     fn start(&mut self, _name: Option<&str>) -> Result<(), Failed>
         ensures ended { self.new.bytes.ended ≡ self.old.bytes.ended }

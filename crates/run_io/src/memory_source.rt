@@ -65,13 +65,15 @@ impl MemorySource {
 }
 
 impl Source for MemorySource {
-    ghost use Rattle.std.specs.Prelude.{Some};
+    ghost use Rattle.std.specs.Prelude.{Some, true};
 
     ghost left = { λ s. Some s.left };
 
     ghost faults = { λ s. s.script.faults };
 
     ghost ended = { λ s. s.ended };
+
+    ghost opened = { λ _ _. true };
 
     fn start(&mut self, _name: Option<&str>) -> Result<(), Failed>
         ensures left { self.new.left ≡ self.old.left }

@@ -1,6 +1,6 @@
 //! The outside as the program sees it.
 ghost use Rattle.std.specs.Prelude.{◌≡◌, ◌<◌, ◌≤◌, ◌||◌, Bool, List, ℕ, Option, IfOk, OnErr};
-ghost use Rattle.std.specs.Prelude.{length, take};
+ghost use Rattle.std.specs.Prelude.{OnOk, length, option_map, take, true};
 ghost use Rattle.run_io.specs.Bytes.{appended, followed_by, is_end, IsEmptyWhereTold};
 ghost use Rattle.run_io.specs.Fault.{HasCause};
 
@@ -20,6 +20,10 @@ pub trait Source {
     /// and a source that has ended stays so.
     ghost ended: { Self → Bool };
 
+    /// Whether the input that it has open may be the one of this name, or standard input where
+    /// there is no name, as far as the source tells one input from another.
+    ghost opened: { Self → Option (List ℕ) → Bool };
+
     /// Makes the source ready to be read. With a name it is the file of that name, without one
     /// standard input; a source that has one input alone may ignore the name.
     ///
@@ -29,6 +33,8 @@ pub trait Source {
     fn start(&mut self, name: Option<&str>) -> Result<(), Failed>
         ensures left { left self.new ≡ left self.old }
         ensures ended { ended self.new ≡ ended self.old }
+        ensures opened { OnOk result
+            (opened self.new (option_map (λ bytes. bytes.now) name.entry) ≡ true) }
         ensures cause { HasCause (faults self.old) (faults self.new) result };
 
     /// Puts the next bytes at the front of the buffer and answers how many, 0 to the buffer's
@@ -44,6 +50,8 @@ pub trait Source {
         ensures end { IfOk result
             (λ n. n ≡ 0 → 0 < length buf.old → IsEmptyWhereTold (left self.new)) }
         ensures ended { ended self.new ≡ (ended self.old || is_end result (length buf.old)) }
+        ensures opened { (name : Option (List ℕ)) → opened self.old name ≡ true →
+            opened self.new name ≡ true }
         ensures err { OnErr result (left self.new ≡ left self.old) }
         ensures cause { HasCause (faults self.old) (faults self.new) result };
 }

@@ -1,10 +1,10 @@
 //! A source over a named file or standard input.
 ghost use Rattle.std.specs.Prelude.{◌≡◌, ◌≤◌, ◌||◌, false, true, None, IfNone, IfOk, IsErr, IsOk};
-ghost use Rattle.std.specs.Prelude.{OnErr, OnOk, is_some, length};
+ghost use Rattle.std.specs.Prelude.{OnErr, OnOk, is_some, length, option_map};
 ghost use Rattle.std.specs.Io.KnownBytes.{ReadConsumes};
 ghost use Rattle.run_io.specs.Bytes.{is_end};
 ghost use Rattle.run_io.specs.Fault.{one_more, HasCause};
-ghost use Rattle.run_io.specs.StdSourceState.{is_file_of, remaining_of};
+ghost use Rattle.run_io.specs.StdSourceState.{is_file_of, may_be, remaining_of};
 
 use crate::pieces::finds_end;
 use crate::system::{counted_answer, read_some};
@@ -69,6 +69,8 @@ impl<'a, R: Files + Input> Source for StdSource<'a, R> {
 
     ghost ended = { λ s. s.ended };
 
+    ghost opened = { λ s. may_be s.is_open s.is_file };
+
     /// Opens the file of that name, or standard input. What was open before is closed, also where
     /// this fails.
     fn start(&mut self, name: Option<&str>) -> Result<(), Failed>
@@ -77,6 +79,8 @@ impl<'a, R: Files + Input> Source for StdSource<'a, R> {
         ensures standard_input { IfNone name.entry (IsOk result) }
         ensures opened { OnOk result (self.new.is_open ≡ true) }
         ensures kind { OnOk result (self.new.is_file ≡ is_some name.entry) }
+        ensures fits { OnOk result (may_be self.new.is_open self.new.is_file
+            (option_map (λ bytes. bytes.now) name.entry) ≡ true) }
         ensures closed { OnErr result (self.new.is_open ≡ false) }
         ensures counted { OnErr result (self.new.faults ≡ one_more self.old.faults) }
     {

@@ -1,5 +1,6 @@
 -- Two runs on one text.
-use Rattle.std.proofs.Common.{◌≡◌, ◌∙◌, ℕ, zero, suc, ◌-◌, ◌≤◌, List, [], ◌∷◌, ◌++◌, Option, Some, None, Bool, true, false}
+use Rattle.std.proofs.Common.{◌≡◌, ◌∙◌, ℕ, zero, suc, ◌-◌, ◌≤◌, List, [], ◌∷◌, ◌++◌, Option, Some}
+use Rattle.std.proofs.Common.{None, Bool, true, false}
 use Rattle.std.proofs.Common.{refl, ap, sym, subst, append-nil, append_assoc, inl, inr, not}
 use Rattle.std.specs.Prelude.{◌⊎◌}
 use Rattle.std.specs.Arc.{arc_value}
@@ -162,7 +163,8 @@ refuted_by rules journal job (Some verdict.Starved) legal is so = absurd (cc)
 
 pub runs_agree : RunsAgree
 runs_agree text first second job one_run other_run there also so not_so =
-    let model = satisfied_by first.board.rules first.board.journal job _ one_run.run.legal refl so in
+    let model = satisfied_by first.board.rules first.board.journal job _ one_run.run.legal refl so
+        in
     let part = refuted_by second.board.rules second.board.journal job _ other_run.run.legal refl
     not_so in
     let same : Some (record {

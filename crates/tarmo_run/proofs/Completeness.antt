@@ -28,7 +28,8 @@ use Rattle.tarmo_run.specs.Output.{UnlessExhausted, WroteAll, WroteFront, ending
 use Rattle.tarmo_run.specs.Output.{is_starved, last_line_of, queries_in, status_of, unnumbered}
 
 -- what a source that is ended gave is all that it had
-pub all_given : (text bytes : List ℕ) (after : Option (List ℕ)) → Some text ≡ followed_by bytes after →
+pub all_given : (text bytes : List ℕ) (after : Option (List ℕ)) → Some text ≡ followed_by bytes
+    after →
     IsEmptyWhereTold after → bytes ≡ text
 all_given text bytes None gave empty = cc
 all_given text bytes (Some rest) gave empty =
@@ -72,7 +73,8 @@ by_ending : (trace : Bool) (ending : Ending) (board : State) (status : ℕ) (tex
     (left_after : Option (List ℕ)) (ended failed : Bool) (before after : Option (List ℕ)) →
     Some text ≡ followed_by bytes left_after → (ended ≡ true → IsEmptyWhereTold left_after) →
     failed ≡ false →
-    (w : WroteAll (OfBlocks trace) (record { bytes = bytes; ended = ended; failed = failed }) board before
+    (w : WroteAll (OfBlocks trace) (record { bytes = bytes; ended = ended; failed = failed }) board
+    before
     after status) → w.ending ≡ ending →
     IsAnswered trace text before after status board ⊎ (status ≡ 6)
 by_ending trace (Complete count) board status text bytes left_after ended failed before after gave
@@ -134,7 +136,8 @@ complete : (given : Rules) (board : State) (status : ℕ) (text : List ℕ)
     left_before ≡ Some text → (ended ≡ true → IsEmptyWhereTold left_after) → failed ≡ false →
     (status ≡ 4 → ⊥) → (run : IsRun given left_before left_after ended failed before after status
     board) →
-    WroteAll (OfBlocks given.traces) (record { bytes = run.bytes; ended = ended; failed = failed }) board
+    WroteAll (OfBlocks given.traces) (record { bytes = run.bytes; ended = ended; failed = failed })
+    board
     before after status ⊎ WroteFront (OfBlocks given.traces)
     (record { bytes = run.bytes; ended = ended; failed = failed }) board before after status →
     IsAnswered given.traces text before after status board ⊎ (status ≡ 6)
@@ -166,7 +169,7 @@ pub not_broken : (status before now : ℕ) → (status ≡ 4) ↔ (before < now)
     status ≡ 4 → ⊥
 not_broken status before now iff same broken = let rose = iff.0 broken in omega (arith, rose, same)
 
-same_rules_by : (rules : Asked → Rules) (found : Option Asked) (given : Rules)
+pub same_rules_by : (rules : Asked → Rules) (found : Option Asked) (given : Rules)
     (command : Asked) → option_map rules found ≡ Some given → found ≡ Some command →
     given ≡ rules command
 same_rules_by rules found given command read is =

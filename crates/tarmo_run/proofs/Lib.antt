@@ -11,6 +11,7 @@ mod Finishing
 mod Gathering
 mod Growing
 mod Passing
+mod Promises
 mod Queries
 mod Reached
 mod Results
@@ -18,4 +19,5 @@ mod Statements
 mod Statuses
 mod Summaries
 mod Sums
+mod Uncut
 mod Variables

@@ -154,7 +154,8 @@ pub piece_through : (result : Result (Option Ending) Failed) (reader after : Rea
     ((text : List ℕ) → HasRead reader text →
     statements text false ++ list ≡ statements (text ++ piece) false) →
     ((text : List ℕ) → HasRead reader text → fault ≡ wrong (text ++ piece) false) →
-    IfOk result (λ stop. MatchOption stop ((fault ≡ None) × Adds old.client old.board new.client new.board list)
+    IfOk result (λ stop. MatchOption stop ((fault ≡ None) × Adds old.client old.board new.client
+    new.board list)
     (λ ending. StopsBy ending fault old new list)) →
     IfOk result (λ stop. (bytes : List ℕ) (failed : Bool) → failed ≡ false →
     IsCaughtUp reader old bytes →
@@ -167,7 +168,8 @@ piece_through (Ok stop) reader after old new piece list fault read given is stop
     (read bytes up.read) (given bytes up.read) (is bytes up.read) stops
 piece_through (Err e) reader after old new piece list fault read given is stops = tt
 
-pub piece_in_part : (result : Result (Option Ending) Failed) (reader : ReaderState) (old new : Progress)
+pub piece_in_part : (result : Result (Option Ending) Failed) (reader : ReaderState)
+    (old new : Progress)
     (piece : List ℕ) (list : List Numbered) →
     ((text : List ℕ) → HasRead reader text →
     statements text false ++ list ≡ statements (text ++ piece) false) →
@@ -183,7 +185,8 @@ piece_in_part (Err e) reader old new piece list given first = λ bytes failed up
     }
 
 -- more statements that weren't looked at
-begun_before : (reader : ReaderState) (progress : Progress) (bytes whole : List ℕ) (ended failed : Bool)
+begun_before : (reader : ReaderState) (progress : Progress) (bytes whole : List ℕ)
+    (ended failed : Bool)
     (more : List Numbered) → statements whole ended ≡ statements bytes false ++ more →
     IsCaughtUp reader progress bytes →
     AsksFirst (record { bytes = whole; ended = ended; failed = failed }) progress.board
@@ -199,7 +202,8 @@ begun_before reader progress bytes whole ended failed more is up = record {
 -- memory ran out while a piece was read
 pub through_before_piece : (reader : ReaderState) (progress : Progress) (bytes piece : List ℕ)
     (failed : Bool) → IsCaughtUp reader progress bytes →
-    IsThrough Exhausted (record { bytes = bytes ++ piece; ended = false; failed = failed }) progress.board
+    IsThrough Exhausted (record { bytes = bytes ++ piece; ended = false; failed = failed })
+    progress.board
 through_before_piece reader progress bytes piece failed up =
     record {
       ends = tt;
@@ -209,7 +213,8 @@ through_before_piece reader progress bytes piece failed up =
     }
 
 -- memory ran out at the end
-pub through_before_end : (reader : ReaderState) (progress : Progress) (bytes : List ℕ) (failed : Bool) →
+pub through_before_end : (reader : ReaderState) (progress : Progress) (bytes : List ℕ)
+    (failed : Bool) →
     IsCaughtUp reader progress bytes →
     IsThrough Exhausted (record { bytes = bytes; ended = true; failed = failed }) progress.board
 through_before_end reader progress bytes failed up =
@@ -221,7 +226,8 @@ through_before_end reader progress bytes failed up =
     }
 
 -- the text ended behind what was read last
-pub through_end : (ending : Ending) (reader : ReaderState) (old new : Progress) (list : List Numbered)
+pub through_end : (ending : Ending) (reader : ReaderState) (old new : Progress)
+    (list : List Numbered)
     (fault : Option Fault) (bytes : List ℕ) (failed : Bool) → failed ≡ false →
     IsCaughtUp reader old bytes →
     ((text : List ℕ) → HasRead reader text → statements text false ++ list ≡ statements text true) →
@@ -232,12 +238,14 @@ through_end ending reader old new list fault bytes failed unfailing up given is 
     through_stop ending reader old new bytes bytes true failed list fault unfailing up
     (given bytes up.read) (is bytes up.read) stop
 
-pub through_complete : (reader : ReaderState) (old new : Progress) (count : ℕ) (list : List Numbered)
+pub through_complete : (reader : ReaderState) (old new : Progress) (count : ℕ)
+    (list : List Numbered)
     (fault : Option Fault) (bytes : List ℕ) (failed : Bool) → failed ≡ false →
     IsCaughtUp reader old bytes →
     ((text : List ℕ) → HasRead reader text → statements text false ++ list ≡ statements text true) →
     ((text : List ℕ) → HasRead reader text → fault ≡ wrong text true) →
-    fault ≡ None → Adds old.client old.board new.client new.board list → count ≡ jobs new.board.journal →
+    fault ≡ None → Adds old.client old.board new.client new.board list → count ≡ jobs
+    new.board.journal →
     IsThrough (Complete count) (record { bytes = bytes; ended = true; failed = failed }) new.board
 through_complete reader old new count list fault bytes failed unfailing up given is none answers
     counted =
@@ -259,7 +267,8 @@ through_complete reader old new count list fault bytes failed unfailing up given
       all = refl;
     }
 
-pub end_in_part : (reader : ReaderState) (old new : Progress) (list : List Numbered) (bytes : List ℕ)
+pub end_in_part : (reader : ReaderState) (old new : Progress) (list : List Numbered)
+    (bytes : List ℕ)
     (failed : Bool) → ((text : List ℕ) → HasRead reader text →
     statements text false ++ list ≡ statements text true) →
     AddsFirst old.client old.board new.board list
@@ -453,7 +462,8 @@ pub piece_ended : (ending : Ending) (reader : ReaderState) (old new : Progress) 
     ended ≡ false → failed ≡ false → left_middle ≡ followed_by piece left_after →
     Reached reader old left_before left_middle →
     ((bytes : List ℕ) (failed : Bool) → failed ≡ false → IsCaughtUp reader old bytes →
-    IsThrough ending (record { bytes = bytes ++ piece; ended = false; failed = failed }) new.board) →
+    IsThrough ending (record { bytes = bytes ++ piece; ended = false; failed = failed })
+    new.board) →
     ReadsThrough ending left_before left_after ended failed new.board
 piece_ended ending reader old new piece left_before left_middle left_after ended failed unended
     unfailed gave reached through = record {

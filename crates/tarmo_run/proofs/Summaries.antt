@@ -8,7 +8,8 @@ use Rattle.entry_core.specs.Settled.{settled}
 use Rattle.board_core.specs.Replies.{IsJob}
 use Rattle.board_core.specs.State.{State}
 use Rattle.entry_core.proofs.Inputs.{inputs_of_none}
-use Rattle.tarmo_run.specs.Body.{clause_count, count_of, is_of, number_of, numbered_line, summary_of}
+use Rattle.tarmo_run.specs.Body.{clause_count, count_of, is_of, number_of, numbered_line}
+use Rattle.tarmo_run.specs.Body.{summary_of}
 use Rattle.tarmo_run.specs.Growth.{HasNoJobMore, IsLonger}
 use Rattle.tarmo_run.specs.Output.{AreSettled}
 use Rattle.tarmo_run.specs.declared.summary.Kind.{Kind}
@@ -89,11 +90,13 @@ pub summary_stays : (number : ℕ) (old new : State) → HasNoJobMore old new �
     summary_of number new ≡ summary_of number old
 summary_stays number old new more all =
     ap (λ c. summary_with number c (jobs new.journal) (number_of kinds.Satisfiable new)
-    (number_of kinds.Unsatisfiable new) (number_of kinds.Unknown new) (number_of kinds.Cancelled new)
+    (number_of kinds.Unsatisfiable new) (number_of kinds.Unknown new)
+    (number_of kinds.Cancelled new)
     (number_of kinds.NoMemory new))
     (clauses_stay old new more)
     ∙ ap (λ j. summary_with number (clause_count old) j (number_of kinds.Satisfiable new)
-    (number_of kinds.Unsatisfiable new) (number_of kinds.Unknown new) (number_of kinds.Cancelled new)
+    (number_of kinds.Unsatisfiable new) (number_of kinds.Unknown new)
+    (number_of kinds.Cancelled new)
     (number_of kinds.NoMemory new))
     (ap length more.segments)
     ∙ five_same number (clause_count old) (jobs old.journal) _ _ _ _ _ _ _ _ _ _

@@ -1,6 +1,8 @@
 -- A run over a number's text.
-use Rattle.std.proofs.Common.{◌≡◌, ◌∙◌, ℕ, ◌+◌, ◌<◌, ◌≤◌, List, [], ◌++◌, length, take, Option, Bool}
-use Rattle.std.proofs.Common.{None, cond, true, false, refl, ap, sym, subst, arith, inl, inr, append-nil, append_assoc}
+use Rattle.std.proofs.Common.{◌≡◌, ◌∙◌, ℕ, ◌+◌, ◌<◌, ◌≤◌, List, [], ◌++◌, length, take, Option}
+use Rattle.std.proofs.Common.{Bool}
+use Rattle.std.proofs.Common.{None, cond, true, false, refl, ap, sym, subst, arith, inl, inr}
+use Rattle.std.proofs.Common.{append-nil, append_assoc}
 use Rattle.std.specs.Prelude.{◌⊎◌, Result, Ok, Err, IsOk, OnOk, OnErr, is_err}
 use Rattle.std.specs.declared.alloc.AllocError.{AllocError}
 use Rattle.std.proofs.lemmas.List.{append_cancel_left, take-append-le}
@@ -21,7 +23,8 @@ use Rattle.icnf_text.specs.Printed.{printed}
 use Rattle.icnf_text.proofs.Fronts.{nothing_stated}
 use Rattle.icnf_gen.specs.Drawn.{generated}
 use Rattle.tarmo_run.specs.declared.endings.Ending.{Ending}
-use Rattle.tarmo_run.specs.declared.endings.Ending.TheVariants.{Complete, Exhausted, Refused, Unread}
+use Rattle.tarmo_run.specs.declared.endings.Ending.TheVariants.{Complete, Exhausted, Refused}
+use Rattle.tarmo_run.specs.declared.endings.Ending.TheVariants.{Unread}
 use Rattle.tarmo_run.specs.Body.{OfSummary, summary_of}
 use Rattle.tarmo_run.specs.Client.{Adds, AddsFirst, clauses_behind, clauses_read, queries_behind}
 use Rattle.tarmo_run.specs.Client.{queries_on}

@@ -13,4 +13,5 @@ pub mod Ended
 pub mod Sides
 pub mod Crew
 pub mod Task
+pub mod Promise
 pub mod Agreement

@@ -130,6 +130,13 @@ UnlessExhausted (Refused fault) P = P
 UnlessExhausted Unread P = P
 UnlessExhausted Exhausted P = Unit {0}
 
+-- where the source failed or memory ran out, nothing; and else this
+abbrev pub UnlessCutShort : Ending → Type 0 → Type 0
+UnlessCutShort (Complete count) P = P
+UnlessCutShort (Refused fault) P = P
+UnlessCutShort Unread P = Unit {0}
+UnlessCutShort Exhausted P = Unit {0}
+
 -- the blocks of the first jobs of the board, and of all of them unless memory ran out
 pub record AreFirstBlocks (trace : Bool) (ending : Ending) (board : State) (lines : List ℕ)
     : Type 0 where

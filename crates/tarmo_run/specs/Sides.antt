@@ -1,5 +1,6 @@
 -- What the sides of a run on many threads know of their passes.
-use Rattle.std.specs.Prelude.{◌≡◌, ℕ, Bool, true, false, Option, List, []}
+use Rattle.std.specs.Prelude.{◌≡◌, ◌≤◌, ℕ, Bool, true, false, nat_lt, Option, List, []}
+use Rattle.run_io.specs.Bytes.{IsEmptyWhereTold}
 use Rattle.entry_core.specs.Journal.{jobs, segments}
 use Rattle.entry_core.specs.Settled.{cancelled}
 use Rattle.board_core.specs.State.{State}
@@ -7,8 +8,10 @@ use Rattle.service.specs.Passes.{BoardLock, BoardPass, IsClientPass, IsReady, Ke
 use Rattle.worker_loop.specs.Slices.{IsAtWork}
 use Rattle.worker_loop.specs.Work.{Rests}
 use Rattle.tarmo_run.specs.declared.adder.Adder.{Adder}
+use Rattle.tarmo_run.specs.declared.endings.Ending.{Ending}
 use Rattle.tarmo_run.specs.declared.printer.Printer.{Printer}
-use Rattle.tarmo_run.specs.Reading.{Progress}
+use Rattle.tarmo_run.specs.Output.{UnlessCutShort}
+use Rattle.tarmo_run.specs.Reading.{Progress, ReadsThrough}
 use Rattle.tarmo_run.specs.Writer.{HasCounted, HasWritten, TookFront}
 
 -- the board as a pass has seen it
@@ -30,6 +33,20 @@ pub record IsAdder (lock : BoardLock) (adder : Adder) : Type 0 where
 -- how far it has come
 abbrev pub progress_by : BoardLock → Adder → Progress
 progress_by lock adder = record { client = adder.client; board = own_of lock adder.pass }
+
+-- The first client has read a source's text, and so the reading ended: what the source gave, and
+-- the jobs of it that were added. Where it ended well, the input that was read is the one with
+-- this name.
+pub record HasReadText {S : Type 0} (left : S → Option (List ℕ)) (faults : S → ℕ)
+    (ended : S → Bool) (opened : S → Option (List ℕ) → Bool) (lock : BoardLock)
+    (name : Option (List ℕ)) (ending : Ending) (adder : Adder) (before after : S)
+    : Type 0 where
+  pub ready : IsAdder lock adder
+  pub through : ReadsThrough ending (left before) (left after) (ended after)
+      (nat_lt (faults before) (faults after)) (own_of lock adder.pass)
+  pub whole : ended after ≡ true → IsEmptyWhereTold (left after)
+  pub later : faults before ≤ faults after
+  pub named : UnlessCutShort ending (opened after name ≡ true)
 
 -- The second client: it adds no job, and cancels none before the sink fails. The jobs that have
 -- their blocks are the first ones that it has seen.

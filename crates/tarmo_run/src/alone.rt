@@ -1,24 +1,18 @@
 //! The run on the caller's own thread.
 
-ghost use Rattle.std.specs.Prelude.{◌≡◌, ◌≢◌, ◌<◌, ◌≤◌, ◌⊎◌, ◌↔◌, ◌^◌, ℕ, List, Option, [], Some, None};
-ghost use Rattle.std.specs.Prelude.{true, false, nat_lt, map, take, string_bytes};
-ghost use Rattle.std.specs.Prelude.{IfOk, IfSome, OnErr, OnOk, MatchOption};
-ghost use Rattle.sat_base.specs.Lit.{variables};
+ghost use Rattle.std.specs.Prelude.{◌≡◌, ◌≢◌, ◌<◌, ◌≤◌, ◌⊎◌, ◌↔◌, ℕ, [], None, Some, true, false};
+ghost use Rattle.std.specs.Prelude.{nat_lt, map, option_map, string_bytes, take, IfOk, IfSome};
+ghost use Rattle.std.specs.Prelude.{OnErr, OnOk, MatchOption};
 ghost use Rattle.run_io.specs.Bytes.{IsEmptyWhereTold, appended};
 ghost use Rattle.run_io.specs.Fault.{HasCause, last_count};
-ghost use Rattle.entry_core.specs.declared.answers.Verdict.{Verdict};
-ghost use Rattle.entry_core.specs.declared.answers.Verdict.TheVariants as verdict;
-ghost use Rattle.entry_core.specs.Causes.{HasCause as HasItsCause};
-ghost use Rattle.entry_core.specs.Journal.{clauses_of, cube_of, is_closed};
+ghost use Rattle.entry_core.specs.Journal.{is_closed};
 ghost use Rattle.entry_core.specs.Legal.{IsLegal};
-ghost use Rattle.entry_core.specs.Settled.{settled};
 ghost use Rattle.tarmo_run.specs.Desk.{IsAlone, IsBetweenPieces, IsFresh};
-ghost use Rattle.tarmo_run.specs.Output.{HadNoBoard, IsAnswered, IsRun, IsRunOn, IsSum};
-ghost use Rattle.tarmo_run.specs.Output.{last_line_of};
+ghost use Rattle.tarmo_run.specs.Output.{IsRun, IsSum, UnlessCutShort, last_line_of};
 ghost use Rattle.tarmo_run.specs.Asking.{rules_of};
+ghost use Rattle.tarmo_run.specs.Promise.{KeepsPromise};
 ghost use Rattle.tarmo_run.specs.Ended.{Finished, FinishedInPart};
 ghost use Rattle.tarmo_run.specs.declared.endings.Ending.TheVariants as endings;
-ghost use Rattle.words.specs.Accepted.{Asked, OfSum, OfText, accepted};
 
 use crate::asking::Task;
 use crate::client::{close_input, give_up};
@@ -75,50 +69,8 @@ pub fn run_alone<S: Source, O: Sink>(
     requires source_faults { S.faults source.old < last_count }
     requires sink_faults { O.faults out.old < last_count }
     requires unread { S.ended source.old ≡ false }
-
-    ensures words { (result.status ≡ 5) ↔ ((accepted (map string_bytes words.now) ≡ None)
-        × (result.status ≢ 4) × (result.status ≢ 6)) }
-    ensures refused { accepted (map string_bytes words.now) ≡ None → result.board ≡ None }
-    ensures untouched { result.status ≡ 5 →
-        (source.new ≡ source.old) × (out.new ≡ out.old) × (result.board ≡ None) }
-    ensures no_board { result.board ≡ None → (result.status ≡ 5)
-        ⊎ HadNoBoard (S.left source.old) (S.left source.new) (O.taken out.old) (O.taken out.new)
-        result.status }
-    ensures run { (command : Asked) → accepted (map string_bytes words.now) ≡ Some command →
-        MatchOption result.board
-        (HadNoBoard (S.left source.old) (S.left source.new) (O.taken out.old) (O.taken out.new)
-        result.status)
-        (IsRunOn command.work (rules_of command) (S.left source.old) (S.left source.new) (S.ended source.new)
-        (nat_lt (S.faults source.old) (S.faults source.new))
-        (O.taken out.old) (O.taken out.new) result.status) }
-    ensures causes { IfSome result.board (λ board. (job : ℕ) (given : Verdict) →
-        settled board.rules board.journal job ≡ Some given →
-        HasItsCause board.rules board.journal job given) }
-    ensures budget { IfSome result.board (λ board. (job : ℕ) →
-        settled board.rules board.journal job ≡ Some verdict.Spent →
-        board.rules.conflicts
-        ≤ 3 ^ variables (clauses_of board.journal job) (cube_of board.journal job)) }
-    ensures closed { IfSome result.board (λ board. is_closed board.journal ≡ true) }
-    ensures unstarted { result.board ≡ None → source.new ≡ source.old }
-    ensures summed { (command : Asked) (number : ℕ) →
-        accepted (map string_bytes words.now) ≡ Some command → command.work ≡ OfSum number →
-        source.new ≡ source.old }
-    ensures whole { S.ended source.new ≡ true → IsEmptyWhereTold (S.left source.new) }
-
-    ensures complete { (command : Asked) (name : Option (List ℕ)) (text : List ℕ) →
-        accepted (map string_bytes words.now) ≡ Some command → command.work ≡ OfText name →
-        S.left source.old ≡ Some text →
-        S.faults source.new ≡ S.faults source.old → O.faults out.new ≡ O.faults out.old →
-        MatchOption result.board (result.status ≡ 6)
-        (λ board. IsAnswered command.trace text (O.taken out.old) (O.taken out.new)
-        result.status board ⊎ (result.status ≡ 6)) }
-
-    ensures sink { (result.status ≡ 4) ↔ (O.faults out.old < O.faults out.new) }
-    ensures source { (result.status ≡ 3)
-        ↔ ((S.faults source.old < S.faults source.new)
-        × (result.status ≢ 4) × (result.status ≢ 6)) }
-    ensures counts { (S.faults source.old ≤ S.faults source.new)
-        × (O.faults out.old ≤ O.faults out.new) }
+    ensures { KeepsPromise S.left S.faults S.ended S.opened O.taken O.faults rules_of
+        (map string_bytes words.now) source.old source.new out.old out.new result }
 {
     verdicts_have_causes();
     large_budgets_answer();
@@ -183,6 +135,8 @@ fn run_over<S: Source, O: Sink>(
         (nat_lt (S.faults source.old) (S.faults source.new))
         (O.taken out.old) (O.taken out.new) result.status) }
     ensures closed { IfSome result.board (λ board. is_closed board.journal ≡ true) }
+    ensures opened { result.status ≢ 3 → result.status ≢ 4 → result.status ≢ 6 →
+        S.opened source.new (option_map (λ bytes. bytes.now) file.entry) ≡ true }
     ensures whole { S.ended source.new ≡ true → IsEmptyWhereTold (S.left source.new) }
     ensures sink { (result.status ≡ 4) ↔ (O.faults out.old < O.faults out.new) }
     ensures counts { (S.faults source.old ≤ S.faults source.new)
@@ -224,6 +178,8 @@ fn solve<S: Source, O: Sink>(
         (nat_lt (S.faults source.old) (S.faults source.new)) desk.new.board
         (O.taken out.old) (O.taken out.new)) }
     ensures closed { OnOk result (is_closed desk.new.board.journal ≡ true) }
+    ensures opened { IfOk result (λ ending. UnlessCutShort ending
+        (S.opened source.new (option_map (λ bytes. bytes.now) file.entry) ≡ true)) }
     ensures whole { S.ended source.new ≡ true → IsEmptyWhereTold (S.left source.new) }
     ensures later { S.faults source.old ≤ S.faults source.new }
     ensures cause { HasCause (O.faults out.old) (O.faults out.new) result }

@@ -46,6 +46,7 @@ pub(crate) fn finish_text<O: Sink>(
         HasWritten trace writer board.old before (O.taken out.old) →
         FinishedInPart trace left_before left_after ended failed board.new before
         (O.taken out.new)) }
+    ensures which { IfOk result (λ told. (told ≡ ending) ⊎ (told ≡ endings.Exhausted)) }
     ensures closed { OnOk result (is_closed board.new.journal ≡ true) }
     ensures cause { HasCause (O.faults out.old) (O.faults out.new) result }
 {

@@ -1,9 +1,9 @@
 //! The run of `tarmo`: from the bytes of a source to the blocks of its answers in a sink.
 //!
-//! The program calls `run_alone`, whose contract is the promise of the whole: which bytes were
-//! written for the bytes that were read, what stands on the board that is given back, and what each
-//! status means. This crate knows no file and no terminal: it reads and writes through the traits
-//! of `run_io`.
+//! The program calls `run`, whose contract is the promise of the whole: which bytes were written
+//! for the bytes that were read, what stands on the board that is given back, and what each status
+//! means. `run_alone` makes the same promise on the caller's own thread. This crate knows no file
+//! and no terminal: it reads and writes through the traits of `run_io`.
 #![tactic(auto)]
 
 mod adder;

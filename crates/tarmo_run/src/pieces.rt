@@ -1,12 +1,14 @@
 //! A text that comes in pieces, and is answered as it comes.
 
 ghost use Rattle.std.specs.Prelude.{◌≡◌, ◌<◌, ◌≤◌, ◌++◌, ℕ, List, Bool, None, Some, false, true};
-ghost use Rattle.std.specs.Prelude.{nat_lt, length, IfOk, OnErr, OnOk, MatchOption};
+ghost use Rattle.std.specs.Prelude.{nat_lt, length, IfOk, OnErr, OnOk, MatchOption, Option};
+ghost use Rattle.std.specs.Prelude.{option_map};
 ghost use Rattle.run_io.specs.Bytes.{IsEmptyWhereTold};
 ghost use Rattle.run_io.specs.Fault.{HasCause, last_count};
 ghost use Rattle.tarmo_run.specs.Client.{Adds, AddsFirst};
 ghost use Rattle.tarmo_run.specs.Desk.{HasAnswered, IsBetweenPieces, IsFresh, Shows, ShowsFront};
 ghost use Rattle.tarmo_run.specs.Desk.{progress_of};
+ghost use Rattle.tarmo_run.specs.Output.{UnlessCutShort};
 ghost use Rattle.tarmo_run.specs.Reading.{AsksFirst, IsCaughtUp, IsThrough, ReadsInPart};
 ghost use Rattle.tarmo_run.specs.Reading.{ReadsThrough, StopsBy, ending_behind};
 
@@ -55,6 +57,8 @@ pub(crate) fn show_blocks<S: Source, O: Sink>(
         (Shows trace desk.old desk.new (O.taken out.old) (O.taken out.new)) }
     ensures breaks { OnErr result
         (ShowsFront trace desk.old desk.new (O.taken out.old) (O.taken out.new)) }
+    ensures opened { IfOk result (λ ending. UnlessCutShort ending
+        (S.opened source.new (option_map (λ bytes. bytes.now) file.entry) ≡ true)) }
     ensures whole { S.ended source.new ≡ true → IsEmptyWhereTold (S.left source.new) }
     ensures later { S.faults source.old ≤ S.faults source.new }
     ensures cause { HasCause (O.faults out.old) (O.faults out.new) result }
@@ -95,6 +99,8 @@ fn answer_pieces<S: Source, O: Sink>(
         (Shows trace desk.old desk.new (O.taken out.old) (O.taken out.new)) }
     ensures breaks { OnErr result
         (ShowsFront trace desk.old desk.new (O.taken out.old) (O.taken out.new)) }
+    ensures opened { (name : Option (List ℕ)) → S.opened source.old name ≡ true →
+        S.opened source.new name ≡ true }
     ensures whole { S.ended source.new ≡ true → IsEmptyWhereTold (S.left source.new) }
     ensures later { S.faults source.old ≤ S.faults source.new }
     ensures cause { HasCause (O.faults out.old) (O.faults out.new) result }

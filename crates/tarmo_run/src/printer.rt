@@ -220,10 +220,22 @@ impl Printer {
         let mut job = 0;
         while job < u32::MAX {
             job += 1;
-            if let Err(CancelFault::NoSuchJob(_)) = service.cancel(rt, &mut self.pass, job) {
+            if !self.cancel(rt, service, job) {
                 return;
             }
         }
+    }
+
+    // Cancels the job, where it isn't settled. Answers whether there is such a job.
+    fn cancel<R: Wait>(&mut self, rt: &R, service: &Service, job: u32) -> bool
+        requires printer { IsPrinter service.now.lock self.old }
+        requires failed { self.old.failed ≡ true }
+        ensures printer { IsPrinter service.now.lock self.new }
+        ensures moves { Moves service.now.lock self.old self.new }
+        ensures failed { self.new.failed ≡ true }
+    {
+        let cancelled = service.cancel(rt, &mut self.pass, job);
+        !matches!(cancelled, Err(CancelFault::NoSuchJob(_)))
     }
 }
 

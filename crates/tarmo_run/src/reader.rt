@@ -1,17 +1,17 @@
 //! The side of a run that reads: it adds the jobs of a text as they come.
 
 ghost use Rattle.std.specs.Prelude.{◌≡◌, ◌<◌, ◌≤◌, ◌++◌, ℕ, List, Bool, None, false, true, nat_lt};
-ghost use Rattle.std.specs.Prelude.{length, MatchOption, OnOk};
+ghost use Rattle.std.specs.Prelude.{Option, length, MatchOption, OnOk, option_map};
 ghost use Rattle.icnf_gen.specs.Drawn.{generated};
 ghost use Rattle.icnf_text.specs.Judgement.{wrong};
 ghost use Rattle.icnf_text.specs.Printed.{printed};
 ghost use Rattle.run_io.specs.Bytes.{IsEmptyWhereTold};
 ghost use Rattle.run_io.specs.Fault.{last_count};
 ghost use Rattle.tarmo_run.specs.Client.{Adds, queries_on};
-ghost use Rattle.tarmo_run.specs.Output.{queries_in, reading_of};
+ghost use Rattle.tarmo_run.specs.Output.{UnlessCutShort, queries_in, reading_of};
 ghost use Rattle.tarmo_run.specs.Reading.{AsksFirst, IsCaughtUp, IsNew, IsThrough, ReadsThrough};
 ghost use Rattle.tarmo_run.specs.Reading.{ReadsSum, StopsBy};
-ghost use Rattle.tarmo_run.specs.Sides.{IsAdder, own_of, progress_by};
+ghost use Rattle.tarmo_run.specs.Sides.{HasReadText, IsAdder, own_of, progress_by};
 
 use crate::adder::Adder;
 use crate::endings::Ending;
@@ -40,12 +40,8 @@ pub(crate) fn read_text<R: Wait, S: Source>(
     requires new { IsNew (progress_by service.now.lock adder.old) }
     requires source_faults { S.faults source.old < last_count }
     requires unread { S.ended source.old ≡ false }
-    ensures adder { IsAdder service.now.lock adder.new }
-    ensures through { ReadsThrough result (S.left source.old) (S.left source.new) (S.ended source.new)
-        (nat_lt (S.faults source.old) (S.faults source.new))
-        (own_of service.now.lock adder.new.pass) }
-    ensures whole { S.ended source.new ≡ true → IsEmptyWhereTold (S.left source.new) }
-    ensures later { S.faults source.old ≤ S.faults source.new }
+    ensures { HasReadText S.left S.faults S.ended S.opened service.now.lock
+        (option_map (λ bytes. bytes.now) file.entry) result adder.new source.old source.new }
 {
     let ending = read_source(rt, alloc, service, meeting, file, adder, source);
     adder.close_input(rt, service);
@@ -69,9 +65,11 @@ fn read_source<R: Wait, S: Source>(
     requires source_faults { S.faults source.old < last_count }
     requires unread { S.ended source.old ≡ false }
     ensures adder { IsAdder service.now.lock adder.new }
-    ensures through { ReadsThrough result (S.left source.old) (S.left source.new) (S.ended source.new)
-        (nat_lt (S.faults source.old) (S.faults source.new))
+    ensures through { ReadsThrough result (S.left source.old) (S.left source.new)
+        (S.ended source.new) (nat_lt (S.faults source.old) (S.faults source.new))
         (own_of service.now.lock adder.new.pass) }
+    ensures opened { UnlessCutShort result
+        (S.opened source.new (option_map (λ bytes. bytes.now) file.entry) ≡ true) }
     ensures whole { S.ended source.new ≡ true → IsEmptyWhereTold (S.left source.new) }
     ensures later { S.faults source.old ≤ S.faults source.new }
 {
@@ -100,9 +98,11 @@ fn read_pieces<R: Wait, S: Source>(
     requires source_faults { S.faults source.old < last_count }
     requires unread { S.ended source.old ≡ false }
     ensures adder { IsAdder service.now.lock adder.new }
-    ensures through { ReadsThrough result (S.left source.old) (S.left source.new) (S.ended source.new)
-        (nat_lt (S.faults source.old) (S.faults source.new))
+    ensures through { ReadsThrough result (S.left source.old) (S.left source.new)
+        (S.ended source.new) (nat_lt (S.faults source.old) (S.faults source.new))
         (own_of service.now.lock adder.new.pass) }
+    ensures opened { (name : Option (List ℕ)) → S.opened source.old name ≡ true →
+        S.opened source.new name ≡ true }
     ensures whole { S.ended source.new ≡ true → IsEmptyWhereTold (S.left source.new) }
     ensures later { S.faults source.old ≤ S.faults source.new }
 {

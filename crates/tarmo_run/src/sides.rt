@@ -1,14 +1,13 @@
 //! The sides of a run on many threads.
 
-ghost use Rattle.std.specs.Prelude.{◌≡◌, ◌<◌, ◌≤◌, ℕ, All, false, true, nat_lt};
-ghost use Rattle.std.specs.Prelude.{length, slice_index_or};
-ghost use Rattle.run_io.specs.Bytes.{IsEmptyWhereTold};
+ghost use Rattle.std.specs.Prelude.{◌≡◌, ◌<◌, ℕ, All, false, true};
+ghost use Rattle.std.specs.Prelude.{length, option_map, slice_index_or};
 ghost use Rattle.run_io.specs.Fault.{last_count};
 ghost use Rattle.service.specs.Passes.{BoardPass};
 ghost use Rattle.tarmo_run.specs.Crew.{IsGathered, IsWhole};
-ghost use Rattle.tarmo_run.specs.Reading.{IsNew, ReadsSum, ReadsThrough};
-ghost use Rattle.tarmo_run.specs.Sides.{ComesBack, IsAdder, IsPrinter, MayWork, Prints, own_of};
-ghost use Rattle.tarmo_run.specs.Sides.{progress_by};
+ghost use Rattle.tarmo_run.specs.Reading.{IsNew, ReadsSum};
+ghost use Rattle.tarmo_run.specs.Sides.{ComesBack, HasReadText, IsAdder, IsPrinter, MayWork};
+ghost use Rattle.tarmo_run.specs.Sides.{Prints, own_of, progress_by};
 ghost use Rattle.tarmo_run.specs.Stop.{HasRisen};
 
 use crate::adder::Adder;
@@ -44,11 +43,8 @@ pub(crate) fn solve_text<R: Threads + Wait + Sync, S: Source, O: Sink + Send, G:
     requires unread { S.ended source.old ≡ false }
     ensures whole { IsWhole crew.new }
     ensures lock { crew.new.service.lock ≡ crew.old.service.lock }
-    ensures through { ReadsThrough result (S.left source.old) (S.left source.new) (S.ended source.new)
-        (nat_lt (S.faults source.old) (S.faults source.new))
-        (own_of crew.new.service.lock crew.new.adder.pass) }
-    ensures told { S.ended source.new ≡ true → IsEmptyWhereTold (S.left source.new) }
-    ensures later { S.faults source.old ≤ S.faults source.new }
+    ensures read { HasReadText S.left S.faults S.ended S.opened crew.new.service.lock
+        (option_map (λ bytes. bytes.now) file.entry) result crew.new.adder source.old source.new }
     ensures prints { Prints trace crew.new.service.lock crew.old.printer crew.new.printer
         (O.taken out.old) (O.taken out.new) }
     ensures well { crew.new.printer.failed ≡ false → O.faults out.new ≡ O.faults out.old }
@@ -137,12 +133,8 @@ fn three_sides<R: Threads + Wait + Sync, S: Source, O: Sink + Send, G: Gate>(
     ensures workers { (k : ℕ) (d : BoardPass) → k < length workers.old →
         ComesBack service.now.lock (slice_index_or workers.old k d)
         (slice_index_or workers.new k d) }
-    ensures adder { IsAdder service.now.lock adder.new }
-    ensures through { ReadsThrough result (S.left source.old) (S.left source.new) (S.ended source.new)
-        (nat_lt (S.faults source.old) (S.faults source.new))
-        (own_of service.now.lock adder.new.pass) }
-    ensures whole { S.ended source.new ≡ true → IsEmptyWhereTold (S.left source.new) }
-    ensures later { S.faults source.old ≤ S.faults source.new }
+    ensures read { HasReadText S.left S.faults S.ended S.opened service.now.lock
+        (option_map (λ bytes. bytes.now) file.entry) result adder.new source.old source.new }
     ensures printer { IsPrinter service.now.lock printer.new }
     ensures prints { Prints trace service.now.lock printer.old printer.new
         (O.taken out.old) (O.taken out.new) }
@@ -170,38 +162,53 @@ fn three_sides<R: Threads + Wait + Sync, S: Source, O: Sink + Send, G: Gate>(
             ensures { ((k : ℕ) (d : BoardPass) → k < length workers.entry.now →
                 ComesBack service.entry.now.lock (slice_index_or workers.entry.now k d)
                 (slice_index_or workers.exit.now k d))
-                × IsAdder service.entry.now.lock adder.exit.now
-                × ReadsThrough result (S.left source.entry.now) (S.left source.exit.now)
-                (S.ended source.exit.now)
-                (nat_lt (S.faults source.entry.now) (S.faults source.exit.now))
-                (own_of service.entry.now.lock adder.exit.now.pass)
-                × (S.ended source.exit.now ≡ true → IsEmptyWhereTold (S.left source.exit.now))
-                × (S.faults source.entry.now ≤ S.faults source.exit.now) }
-        {
-            let (_, ending) = join_mut(
-                rt,
-                &mut ||
-                    requires { All (MayWork service.now.lock) workers.now }
-                    ensures { (k : ℕ) (d : BoardPass) → k < length workers.entry.now →
-                        ComesBack service.entry.now.lock (slice_index_or workers.entry.now k d)
-                        (slice_index_or workers.exit.now k d) }
-                { work_all(rt, alloc, service, meeting, workers, gate) },
-                &mut || -> Ending
-                    requires { IsAdder service.now.lock adder.now
-                        × IsNew (progress_by service.now.lock adder.now)
-                        × (S.faults source.now < last_count) × (S.ended source.now ≡ false) }
-                    ensures { IsAdder service.entry.now.lock adder.exit.now
-                        × ReadsThrough result (S.left source.entry.now) (S.left source.exit.now)
-                        (S.ended source.exit.now)
-                        (nat_lt (S.faults source.entry.now) (S.faults source.exit.now))
-                        (own_of service.entry.now.lock adder.exit.now.pass)
-                        × (S.ended source.exit.now ≡ true →
-                        IsEmptyWhereTold (S.left source.exit.now))
-                        × (S.faults source.entry.now ≤ S.faults source.exit.now) }
-                { read_text(rt, alloc, service, meeting, file, adder, source) },
-            );
-            ending
-        },
+                × HasReadText S.left S.faults S.ended S.opened service.entry.now.lock
+                (option_map (λ bytes. bytes.now) file.entry) result adder.exit.now
+                source.entry.now source.exit.now }
+        { reader_and_workers(rt, alloc, service, meeting, file, workers, adder, source, gate) },
+    );
+    ending
+}
+
+// The reader on the caller's own thread, and the workers.
+fn reader_and_workers<R: Threads + Wait + Sync, S: Source, G: Gate>(
+    rt: &R,
+    alloc: Global,
+    service: &Service,
+    meeting: &Meeting,
+    file: Option<&str>,
+    workers: &mut [WorkerPass],
+    adder: &mut Adder,
+    source: &mut S,
+    gate: &G,
+) -> Ending
+    requires workers { All (MayWork service.now.lock) workers.old }
+    requires adder { IsAdder service.now.lock adder.old }
+    requires new { IsNew (progress_by service.now.lock adder.old) }
+    requires source_faults { S.faults source.old < last_count }
+    requires unread { S.ended source.old ≡ false }
+    ensures { ((k : ℕ) (d : BoardPass) → k < length workers.old →
+        ComesBack service.now.lock (slice_index_or workers.old k d)
+        (slice_index_or workers.new k d))
+        × HasReadText S.left S.faults S.ended S.opened service.now.lock
+        (option_map (λ bytes. bytes.now) file.entry) result adder.new source.old source.new }
+{
+    let (_, ending) = join_mut(
+        rt,
+        &mut ||
+            requires { All (MayWork service.now.lock) workers.now }
+            ensures { (k : ℕ) (d : BoardPass) → k < length workers.entry.now →
+                ComesBack service.entry.now.lock (slice_index_or workers.entry.now k d)
+                (slice_index_or workers.exit.now k d) }
+        { work_all(rt, alloc, service, meeting, workers, gate) },
+        &mut || -> Ending
+            requires { IsAdder service.now.lock adder.now
+                × IsNew (progress_by service.now.lock adder.now)
+                × (S.faults source.now < last_count) × (S.ended source.now ≡ false) }
+            ensures { HasReadText S.left S.faults S.ended S.opened service.entry.now.lock
+                (option_map (λ bytes. bytes.now) file.entry) result adder.exit.now
+                source.entry.now source.exit.now }
+        { read_text(rt, alloc, service, meeting, file, adder, source) },
     );
     ending
 }

@@ -1,10 +1,13 @@
 //! Whole runs over a source and a sink in memory.
 
+mod beside;
 mod command_lines;
 mod dialogue;
 mod faults;
+mod named;
 mod outcomes;
 mod sides;
+mod sums;
 mod texts;
 
 use crate::run_alone;

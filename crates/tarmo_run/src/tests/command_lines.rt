@@ -1,12 +1,14 @@
 //! The words of a run.
 
 use super::{Case, PLAIN, TWO_ANSWERS, TWO_JOBS, assert_output, run, words_of};
-use crate::{WORDS_REFUSED, run_alone};
-use run_io::{MemorySink, MemorySource, StdSource};
+use crate::{WORDS_REFUSED, run as run_on_threads, run_alone};
+use run_io::{MemorySink, MemorySource, NoGate, StdSource};
 use std::alloc::{AllocError, Global};
 use std::process::Abort;
 use std::rt::Files;
+use std::sync::Wait;
 use std::test::Fail;
+use std::thread::Threads;
 
 // Words that are accepted: whether the run shows traces, how many clauses an attempt may learn, and
 // how many attempts a job has.
@@ -83,12 +85,19 @@ fn accepted_words_are_the_rules_of_the_board(rt: HostRuntime) -> Result<(), Fail
 
 // These words are refused, and nothing is read or written: the same source then gives its whole
 // text.
-fn assert_refused(alloc: Global, rt: &impl Abort, line: &str) -> Result<(), AllocError> {
+fn assert_refused<R: Threads + Wait + Sync + Abort>(
+    alloc: Global,
+    rt: &R,
+    line: &str,
+) -> Result<(), AllocError> {
     let words = words_of(alloc, line)?;
     let bytes = TWO_JOBS.as_bytes().to_vec(alloc)?;
     let mut source = MemorySource::new(bytes, Vec::new(alloc), Vec::new(alloc));
     let mut sink = MemorySink::new(alloc, 1000, 1000, Vec::new(alloc))?;
     let refused = run_alone(alloc, &words, &mut source, &mut sink);
+    assert_eq!(rt; refused.status, WORDS_REFUSED, "{line}");
+    assert!(rt; refused.board.is_none(), "{line}");
+    let refused = run_on_threads(rt, alloc, &words, &mut source, &mut sink, &NoGate);
     assert_eq!(rt; refused.status, WORDS_REFUSED, "{line}");
     assert!(rt; refused.board.is_none(), "{line}");
     assert_eq!(rt; sink.bytes(), b"".as_slice(), "{line}");

@@ -3,13 +3,14 @@
 ghost use Rattle.std.specs.Prelude.{◌≡◌, ◌≤◌, false, length};
 ghost use Rattle.run_io.specs.Bytes.{is_end_at};
 
-use super::words_of;
+use super::sides::WORKERS;
+use super::{TWO_ANSWERS, TWO_JOBS, words_of};
 use crate::{run, run_alone};
-use run_io::{Failed, NoGate, Sink, Source};
+use run_io::{DoorGate, DoorSink, DoorSource, Failed, NoGate, Sink, Source};
 use std::alloc::{AllocError, Global};
 use std::process::Abort;
 use std::sync::Wait;
-use std::sync::atomic::AtomicUsize;
+use std::sync::atomic::{AtomicBool, AtomicUsize};
 use std::sync::atomic::Ordering::SeqCst;
 use std::test::Fail;
 use std::thread::{self, Threads};
@@ -53,13 +54,15 @@ impl<'a> Asking<'a> {
 }
 
 impl<'a> Source for Asking<'a> {
-    ghost use Rattle.std.specs.Prelude.{None};
+    ghost use Rattle.std.specs.Prelude.{None, true};
 
     ghost left = { λ _. None };
 
     ghost faults = { λ s. s.faults };
 
     ghost ended = { λ s. s.ended };
+
+    ghost opened = { λ _ _. true };
 
     fn start(&mut self, _name: Option<&str>) -> Result<(), Failed> {
         Ok(())
@@ -80,13 +83,13 @@ impl<'a> Source for Asking<'a> {
     }
 }
 
-fn finds_end(count: usize, room: usize) -> bool
+pub(super) fn finds_end(count: usize, room: usize) -> bool
     ensures { result ≡ is_end_at count room }
 {
     count == 0 && room > 0
 }
 
-fn copy_front(bytes: &[u8], buf: &mut [u8]) -> usize
+pub(super) fn copy_front(bytes: &[u8], buf: &mut [u8]) -> usize
     ensures { result ≤ length buf.old }
 {
     let count = bytes.len().min(buf.len());
@@ -146,9 +149,36 @@ fn assert_talks<R: Threads + Wait + Sync + Abort>(
     Ok(())
 }
 
+
+// The source reads on only where a job was answered, and then only where its block was written.
+fn assert_goes_through_doors<R: Threads + Wait + Sync + Abort>(
+    rt: &R,
+    alloc: Global,
+    line: &str,
+) -> Result<(), AllocError> {
+    let words = words_of(alloc, line)?;
+    let gate = DoorGate::new(0, 1, LOOKS);
+    let written = AtomicBool::new(false);
+    let text = TWO_JOBS.as_bytes().to_vec(alloc)?;
+    let mut source = DoorSource::new(&gate, &written, text, [17, 5, 4].to_vec(alloc)?);
+    let mut sink = DoorSink::new(alloc, &written, 1000)?;
+    let finish = run(rt, alloc, &words, &mut source, &mut sink, &gate);
+    assert_eq!(rt; sink.bytes(), TWO_ANSWERS.as_bytes(), "{line}");
+    assert_eq!(rt; finish.status, 0, "{line}");
+    Ok(())
+}
+
+#[test]
+fn a_block_is_written_before_the_text_has_ended(rt: HostRuntime) -> Result<(), Fail> {
+    for line in WORKERS {
+        assert_goes_through_doors(&rt, rt.alloc(), line)?;
+    }
+    Ok(())
+}
+
 #[test]
 fn a_block_is_written_while_the_source_is_silent(rt: HostRuntime) -> Result<(), Fail> {
-    for line in ["--workers 1", "--workers 2", "--workers 8"] {
+    for line in WORKERS {
         assert_talks(&rt, rt.alloc(), line)?;
     }
     Ok(())

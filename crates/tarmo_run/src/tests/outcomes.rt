@@ -65,7 +65,7 @@ pub(super) const TRACED: &[Case<'static>] = &[
     },
 ];
 
-const UNDER_BUDGETS: &[Case<'static>] = &[
+pub(super) const UNDER_BUDGETS: &[Case<'static>] = &[
     Case {
         text: PIGEONS,
         output: "j 1 UNSATISFIABLE\nf 0\nend 1\n",
@@ -116,9 +116,9 @@ const UNDER_BUDGETS: &[Case<'static>] = &[
 ];
 
 // A model cancels the jobs behind it, those that are read later too, and no other.
-const UNDER_FIRST: &[Case<'static>] = &[
+pub(super) const UNDER_FIRST: &[Case<'static>] = &[
     Case {
-        words: "--first --workers 1",
+        words: "--first",
         text: "p inccnf\n1 0\na 1 0\n-1 0\na 0\n",
         output: "j 1 SATISFIABLE\nv 1 0\nj 2 CANCELLED\nend 2\n",
         status: 1,
@@ -159,7 +159,7 @@ const UNDER_FIRST: &[Case<'static>] = &[
     },
 ];
 
-const UP_TO_THE_END: &[Case<'static>] = &[
+pub(super) const UP_TO_THE_END: &[Case<'static>] = &[
     Case {
         text: "p inccnf\n",
         output: "end 0\n",
@@ -187,14 +187,14 @@ const UP_TO_THE_END: &[Case<'static>] = &[
         status: 2,
         ..PLAIN
     },
-    // The greatest variable.
-    Case {
-        text: "p inccnf\n8388607 0\na -8388607 0\n",
-        output: "j 1 UNSATISFIABLE\nf -8388607 0\nend 1\n",
-        outcomes: REFUTED,
-        ..PLAIN
-    },
 ];
+
+pub(super) const GREATEST: Case<'static> = Case {
+    text: "p inccnf\n8388607 0\na -8388607 0\n",
+    output: "j 1 UNSATISFIABLE\nf -8388607 0\nend 1\n",
+    outcomes: REFUTED,
+    ..PLAIN
+};
 
 // The trace goes on behind the clauses. It may have steps before its last one, and ends in the
 // clause of the part's negated literals.
@@ -251,6 +251,12 @@ fn a_summary_counts_the_verdicts(rt: HostRuntime) -> Result<(), Fail> {
     };
     let lines = summary(rt.alloc(), 7, board)?;
     assert_eq!(rt; lines.as_slice(), SUMMARY.as_bytes());
+    Ok(())
+}
+
+#[test]
+fn the_greatest_variable_may_be_asked(rt: HostRuntime) -> Result<(), Fail> {
+    assert_case(rt.alloc(), &rt, &GREATEST)?;
     Ok(())
 }
 

@@ -1,21 +1,19 @@
-//! Runs on many threads: the same outputs with any number of workers, jobs beside each other, and
-//! blocks while the text is still coming.
+//! Runs on many threads: the same outputs with any number of workers.
 
 use super::faults::{SINK_FAILS, SOURCE_FAILS};
-use super::outcomes::{PIGEONS, SPENT, TRACED};
+use super::outcomes::{GREATEST, PIGEONS, SPENT, TRACED, UP_TO_THE_END};
 use super::texts::{ACCEPTED, REFUSED};
 use super::{Case, Finished, PLAIN, TWO_ANSWERS, assert_output, assert_settled, words_of};
 use crate::run;
-use board_core::Board;
-use entry_core::{Entry, Event};
-use run_io::{DoorGate, Gate, MemorySink, MemorySource, NoGate};
+use entry_core::Outcome;
+use run_io::{Gate, MemorySink, MemorySource, NoGate};
 use std::alloc::{AllocError, Global};
 use std::process::Abort;
 use std::sync::Wait;
 use std::test::Fail;
 use std::thread::Threads;
 
-const WORKERS: &[&str] = &["--workers 1", "--workers 2", "--workers 4", "--workers 8"];
+pub(super) const WORKERS: &[&str] = &["--workers 1", "--workers 2", "--workers 4", "--workers 8"];
 
 // The words of a command line behind those of the workers.
 fn words_with(alloc: Global, workers: &str, line: &str) -> Result<Vec<String>, AllocError> {
@@ -27,7 +25,7 @@ fn words_with(alloc: Global, workers: &str, line: &str) -> Result<Vec<String>, A
 }
 
 // A run of the case on these workers, through this gate.
-fn run_through<R: Threads + Wait + Sync, G: Gate>(
+pub(super) fn run_through<R: Threads + Wait + Sync, G: Gate>(
     rt: &R,
     alloc: Global,
     workers: &str,
@@ -50,13 +48,26 @@ fn run_through<R: Threads + Wait + Sync, G: Gate>(
     })
 }
 
-fn run_on<R: Threads + Wait + Sync>(
+pub(super) fn run_on<R: Threads + Wait + Sync>(
     rt: &R,
     alloc: Global,
     workers: &str,
     case: &Case,
 ) -> Result<Finished, AllocError> {
     run_through(rt, alloc, workers, case, &NoGate)
+}
+
+// The run on these workers shows what it must.
+pub(super) fn assert_on<R: Threads + Wait + Sync + Abort>(
+    rt: &R,
+    alloc: Global,
+    workers: &str,
+    case: &Case,
+) -> Result<(), AllocError> {
+    let run = run_on(rt, alloc, workers, case)?;
+    assert_output(rt, &run, case.output, case.status);
+    assert_settled(rt, &run, case.outcomes, case.output);
+    Ok(())
 }
 
 // The run shows what it must, with any number of workers.
@@ -66,9 +77,7 @@ fn assert_on_all<R: Threads + Wait + Sync + Abort>(
     case: &Case,
 ) -> Result<(), AllocError> {
     for workers in WORKERS {
-        let run = run_on(rt, alloc, workers, case)?;
-        assert_output(rt, &run, case.output, case.status);
-        assert_settled(rt, &run, case.outcomes, case.output);
+        assert_on(rt, alloc, workers, case)?;
     }
     Ok(())
 }
@@ -97,6 +106,63 @@ fn texts_have_the_same_outputs_on_any_number_of_workers(rt: HostRuntime) -> Resu
     }
     for (text, output) in REFUSED {
         assert_text(&rt, alloc, text, output, 2)?;
+    }
+    Ok(())
+}
+
+// A text byte by byte, and cut in the middle of its first line.
+const CUT: &[&[usize]] = &[&[1; 27], &[5]];
+
+#[test]
+fn a_text_in_pieces_has_the_same_output_on_any_number_of_workers(
+    rt: HostRuntime,
+) -> Result<(), Fail> {
+    for cuts in CUT {
+        let case = Case {
+            text: "p inccnf\n1 2 0\n-1 0\na -2 0\n",
+            cuts,
+            output: "j 1 UNSATISFIABLE\nf -2 0\nend 1\n",
+            outcomes: &[Outcome::Refuted],
+            ..PLAIN
+        };
+        assert_on_all(&rt, rt.alloc(), &case)?;
+    }
+    Ok(())
+}
+
+#[test]
+fn the_jobs_are_those_before_the_end_or_a_wrong_place_on_any_number_of_workers(
+    rt: HostRuntime,
+) -> Result<(), Fail> {
+    for case in UP_TO_THE_END {
+        assert_on_all(&rt, rt.alloc(), case)?;
+    }
+    Ok(())
+}
+
+#[test]
+fn the_greatest_variable_may_be_asked_on_any_number_of_workers(
+    rt: HostRuntime,
+) -> Result<(), Fail> {
+    assert_on_all(&rt, rt.alloc(), &GREATEST)?;
+    Ok(())
+}
+
+// The trace goes on behind the clauses, and ends in the clause of the part's negated literals.
+#[test]
+fn a_trace_goes_on_behind_the_clauses_on_any_number_of_workers(
+    rt: HostRuntime,
+) -> Result<(), Fail> {
+    let case = Case {
+        words: "--trace",
+        text: "p inccnf\n1 0\n-1 2 0\na -2 0\n",
+        ..PLAIN
+    };
+    for workers in WORKERS {
+        let run = run_on(&rt, rt.alloc(), workers, &case)?;
+        let front = b"j 1 UNSATISFIABLE\nf -2 0\nt 3 2 0 1 2 0\n";
+        assert!(&rt; run.taken.starts_with(front), "{workers}");
+        assert!(&rt; run.taken.ends_with(b" 0\nend 1\n"), "{workers}");
     }
     Ok(())
 }
@@ -175,34 +241,5 @@ fn a_job_is_given_up_after_its_attempts_on_any_number_of_workers(
         ..PLAIN
     };
     assert_on_all(&rt, rt.alloc(), &case)?;
-    Ok(())
-}
-
-#[test]
-fn two_jobs_run_beside_each_other(rt: HostRuntime) -> Result<(), Fail> {
-    let gate = DoorGate::new(1, 2, 10_000_000);
-    let run = run_through(&rt, rt.alloc(), "--workers 2", &PLAIN, &gate)?;
-    assert_output(&rt, &run, TWO_ANSWERS, 0);
-    assert!(&rt; gate.answered() && !gate.was_late());
-    Ok(())
-}
-
-// Whether a packet was shared before the first decision.
-fn is_shared_first(board: &Board) -> bool {
-    let is_shared = |entry: &Entry| matches!(entry.event, Event::Shared(_));
-    let is_decided = |entry: &Entry| matches!(entry.event, Event::Decided { .. });
-    let shared = board.journal().iter().position(is_shared);
-    let decided = board.journal().iter().position(is_decided);
-    shared.is_some() && shared < decided
-}
-
-#[test]
-fn a_worker_shares_what_it_learnt_before_it_decides(rt: HostRuntime) -> Result<(), Fail> {
-    let case = Case {
-        text: PIGEONS,
-        ..PLAIN
-    };
-    let run = run_on(&rt, rt.alloc(), "--workers 1", &case)?;
-    assert!(&rt; run.board.is_some_and(|board| is_shared_first(&board)));
     Ok(())
 }

@@ -1,20 +1,23 @@
-use Rattle.std.proofs.Common.{◌≡◌, ◌⊎◌, subst, map, nat_lt, string_bytes}
-use Rattle.std.specs.Prelude.{MatchOption}
-use Rattle.entry_core.specs.declared.rules.Rules.{Rules}
-use Rattle.words.specs.Accepted.{accepted}
-use Rattle.tarmo_run.specs.Output.{IsAnswered, IsRun}
-use Rattle.tarmo_run.proofs.Completeness.{complete_over, not_broken, same_rules}
-use Rattle.tarmo_run.proofs.Reached.{unfailing}
+use Rattle.std.proofs.Common.{◌≡◌, ℕ, List, Option, Some, true, refl, subst, map, option_map, string_bytes}
+use Rattle.words.specs.declared.command.Work.{Work}
+use Rattle.words.specs.Accepted.{Asked, accepted, input_of}
+use Rattle.tarmo_run.specs.Asking.{rules_of}
+use Rattle.tarmo_run.proofs.Promises.{over_sum, over_text, without_memory, words_refused}
 use Rattle.tarmo_run.proofs.alone.run_alone.Goals as goal
 
-pub returns-in-Text-clause-complete : goal.returns-in-Text-clause-complete
-returns-in-Text-clause-complete g c = λ command name text accepts work told source_same sink_same.
-    subst (λ (given : Rules). MatchOption c.run_over.result.board (c.run_over.result.status ≡ 6)
-    (λ board. IsAnswered given.traces text (g.O.Sink.taken c.args.out.now)
-    (g.O.Sink.taken c.run_over.new.out) c.run_over.result.status board
-    ⊎ (c.run_over.result.status ≡ 6)))
-    (same_rules (accepted (map string_bytes c.args.words.now)) c.in-Ok.task.rules command
-    c.in-Ok.ensures.rules accepts)
-    (complete_over c.run_over.result.board c.in-Ok.task.rules c.run_over.result.status text _ _ _ _
-    _ _ told c.run_over.ensures.whole (unfailing _ _ source_same)
-    (not_broken _ _ _ c.run_over.ensures.sink sink_same) c.run_over.ensures.run)
+pub returns-in-Text : goal.returns-in-Text
+returns-in-Text g c =
+    over_text g.S.Source.left g.S.Source.faults g.S.Source.ended g.S.Source.opened g.O.Sink.taken
+    g.O.Sink.faults rules_of (map string_bytes c.args.words.now) c.args.source.now
+    c.run_over.new.source c.args.out.now c.run_over.new.out c.run_over.result c.in-Ok.task.rules
+    (option_map string_bytes c.in-Text.file)
+    c.verdicts_have_causes.ensures c.large_budgets_answer.ensures c.in-Ok.ensures.rules
+    (subst (λ (work : Work). (command : Asked) →
+    accepted (map string_bytes c.args.words.now) ≡ Some command → command.work ≡ input_of work)
+    c.in-Text.is c.in-Ok.ensures.work)
+    (λ command. refl) c.in-Ok.ensures.limits c.run_over.ensures.run
+    c.run_over.ensures.closed
+    (λ three four six. subst (λ (name : Option (List ℕ)).
+    g.S.Source.opened c.run_over.new.source name ≡ true) c.as_deref.ensures.value
+    (c.run_over.ensures.opened three four six))
+    c.run_over.ensures.whole c.run_over.ensures.sink c.run_over.ensures.counts

@@ -1,8 +1,9 @@
-use Rattle.std.proofs.Common.{◌≡◌, ◌∙◌, ap, refl, subst, sym}
+use Rattle.std.proofs.Common.{◌≡◌, ◌∙◌, ap, inl, refl, subst, sym}
 use Rattle.entry_core.specs.declared.rules.Rules.{Rules}
 use Rattle.board_core.specs.State.{State}
 use Rattle.tarmo_run.specs.Desk.{IsAlone}
 use Rattle.tarmo_run.proofs.Finishing.{ran_in_part, ran_through}
+use Rattle.tarmo_run.proofs.Uncut.{done_by_status}
 use Rattle.tarmo_run.proofs.alone.run_over.Goals as goal
 
 pub new-desk-requires-clause-alone : goal.new-desk-requires-clause-alone
@@ -34,3 +35,13 @@ returns-in-Ok-clause-closed g c = rw c.give_back.ensures.parts c.in-Ok.ensures.c
 
 pub returns-in-Err-clause-closed : goal.returns-in-Err-clause-closed
 returns-in-Err-clause-closed g c = rw c.give_back-in-Err.ensures.parts c.give_up.ensures.closed
+
+pub returns-in-Ok-clause-opened : goal.returns-in-Ok-clause-opened
+returns-in-Ok-clause-opened g c =
+    rw c.give_back.ensures.parts
+    (λ three four six. done_by_status c.in-Ok.ending c.in-Ok.ending c.solve.new.desk.board
+    c.status-status.result _ (inl refl) c.status-status.ensures c.in-Ok.ensures.opened three six)
+
+pub returns-in-Err-clause-opened : goal.returns-in-Err-clause-opened
+returns-in-Err-clause-opened g c =
+    rw c.give_back-in-Err.ensures.parts (λ three four six. absurd (four refl))

@@ -6,6 +6,7 @@ use Rattle.tarmo_run.specs.declared.endings.Ending.TheVariants as endings
 use Rattle.tarmo_run.specs.Output.{last_line_of}
 use Rattle.tarmo_run.proofs.Finishing.{finished, finished_in_blocks, finished_in_line, none_written}
 use Rattle.tarmo_run.proofs.Results.{on_ok_always}
+use Rattle.tarmo_run.proofs.Uncut.{told_uncut}
 use Rattle.tarmo_run.proofs.alone.solve.Goals as goal
 
 pub returns-in_err-ending-clause-front : goal.returns-in_err-ending-clause-front
@@ -41,3 +42,13 @@ returns-clause-front g c =
 
 pub returns-clause-closed : goal.returns-clause-closed
 returns-clause-closed g c = on_ok_always c.close.result c.close_input.ensures.closed
+
+pub returns-clause-opened : goal.returns-clause-opened
+returns-clause-opened g c =
+    IfOk-weaker c.close.result
+    (λ told. ((told ≡ c.in_ok-ending.ending) ⊎ (told ≡ endings.Exhausted))
+    × (g.O.Sink.taken c.close.new.out
+    ≡ appended (g.O.Sink.taken c.show_blocks.new.out) (last_line_of told)))
+    _
+    (λ told h. told_uncut c.in_ok-ending.ending told _ h.0 c.in_ok-ending.ensures.opened)
+    c.close.ensures.told

@@ -8,6 +8,7 @@ use Rattle.tarmo_run.proofs.Boards.{no_job_none}
 use Rattle.tarmo_run.proofs.Finishing.{finished, finished_in_blocks, finished_in_line}
 use Rattle.tarmo_run.proofs.Finishing.{reads_in_part, reads_told}
 use Rattle.tarmo_run.proofs.Results.{on_ok_always}
+use Rattle.tarmo_run.proofs.Uncut.{told_twice}
 use Rattle.tarmo_run.proofs.closing.finish_text.Goals as goal
 
 pub returns-in_err-ending-clause-front : goal.returns-in_err-ending-clause-front
@@ -49,3 +50,13 @@ returns-clause-front g c =
 
 pub returns-clause-closed : goal.returns-clause-closed
 returns-clause-closed g c = on_ok_always c.close.result c.close_input.ensures.closed
+
+pub returns-clause-which : goal.returns-clause-which
+returns-clause-which g c =
+    IfOk-weaker c.close.result
+    (λ told. ((told ≡ c.in_ok-ending.ending) ⊎ (told ≡ endings.Exhausted))
+    × (g.O.Sink.taken c.close.new.out
+    ≡ appended (g.O.Sink.taken c.write_rest.new.out) (last_line_of told)))
+    _
+    (λ told h. told_twice c.args.ending c.in_ok-ending.ending told c.in_ok-ending.ensures.which h.0)
+    c.close.ensures.told

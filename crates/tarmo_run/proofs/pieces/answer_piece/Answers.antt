@@ -5,7 +5,8 @@ use Rattle.tarmo_run.proofs.pieces.answer_piece.Goals as goal
 pub returns-in-Ok-clause-through : goal.returns-in-Ok-clause-through
 returns-in-Ok-clause-through g c =
     piece_through c.answer_fed.result c.args.reader.now c.feed.new.self
-    (progress_of c.args.desk.now) (progress_of c.answer_fed.new.desk) c.args.piece.now c.in-Ok.fed.statements c.in-Ok.fed.fault
+    (progress_of c.args.desk.now) (progress_of c.answer_fed.new.desk) c.args.piece.now
+    c.in-Ok.fed.statements c.in-Ok.fed.fault
     c.in-Ok.ensures.read c.in-Ok.ensures.given c.in-Ok.ensures.fault c.answer_fed.ensures.stops
 
 pub returns-in-Ok-clause-in_part : goal.returns-in-Ok-clause-in_part

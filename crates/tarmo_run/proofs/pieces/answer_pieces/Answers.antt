@@ -17,6 +17,7 @@ loop-count-init g c = record {
   writes = λ before took. took;
   source_faults = search rules;
   sink_faults = search rules;
+  opened = λ name is. is;
   unended = c.requires.unread;
   room = search rules;
 }
@@ -73,7 +74,8 @@ pub loop-count-smaller : goal.loop-count-smaller
 loop-count-smaller g c =
     let fits : c.in-Ok.count ≤ length c.read.new.buf =
     subst (λ (n : ℕ). c.in-Ok.count ≤ n) (sym c.read.auto.buf) c.in-Ok.ensures.count in
-    nearer _ _ (progress_of c.loop-count.desk) (progress_of c.answer_piece.new.desk) c.in-Ok.count c.read.new.buf _ _ c.loop-count.invariant.reached
+    nearer _ _ (progress_of c.loop-count.desk) (progress_of c.answer_piece.new.desk) c.in-Ok.count
+    c.read.new.buf _ _ c.loop-count.invariant.reached
     (rw c.in-None.is at c.in_ok-ending.ensures.through) c.if-count-eq0.false fits
 
 pub loop-count-preserved : goal.loop-count-preserved
@@ -81,13 +83,15 @@ loop-count-preserved g c = record {
   between = c.answer_piece.ensures.between;
   rules = c.answer_piece.ensures.rules ∙ c.loop-count.invariant.rules;
   reached = piece_reached _ _ (progress_of c.loop-count.desk)
-      (progress_of c.answer_piece.new.desk) _ _ _ _ c.in-Ok.ensures.bytes c.loop-count.invariant.reached
+      (progress_of c.answer_piece.new.desk) _ _ _ _ c.in-Ok.ensures.bytes
+      c.loop-count.invariant.reached
       (rw c.in-None.is at c.in_ok-ending.ensures.through);
   answered = rw c.in-None.is at c.in_ok-ending.ensures.answered;
   writes = λ before took. c.in_ok-ending.ensures.writes before
       (c.loop-count.invariant.writes before took);
   source_faults = c.in-Ok.ensures.cause.ok ∙ c.loop-count.invariant.source_faults;
   sink_faults = search rules;
+  opened = λ name is. c.in-Ok.ensures.opened name (c.loop-count.invariant.opened name is);
   unended = goes_on _ _ c.in-Ok.count _ c.in-Ok.ensures.ended c.loop-count.invariant.unended
       c.if-count-eq0.false;
   room = c.read.auto.buf ∙ c.loop-count.invariant.room;

@@ -11,7 +11,8 @@ returns-in_default-clause-through g c =
 
 pub returns-clause-through : goal.returns-clause-through
 returns-clause-through g c =
-    through_unstarted (progress_of c.args.desk.now) _ _ _ _ c.in-Err.ensures.left (c.in-Err.ensures.ended
+    through_unstarted (progress_of c.args.desk.now) _ _ _ _ c.in-Err.ensures.left
+    (c.in-Err.ensures.ended
     ∙ c.requires.unread)
     (failing _ _ c.requires.source_faults c.in-Err.ensures.cause.failed)
     (new_at_first c.args.desk.now c.requires.fresh)

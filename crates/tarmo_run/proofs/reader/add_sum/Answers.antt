@@ -16,7 +16,8 @@ returns-in-Err-clause-first g c =
 pub returns-in-Ok-clause-first : goal.returns-in-Ok-clause-first
 returns-in-Ok-clause-first g c =
     subst (λ (bytes : List ℕ). AsksFirst
-    (record { bytes = bytes; ended = true; failed = false }) (own_of c.args.service.now.lock c.add_text.new.adder.pass))
+    (record { bytes = bytes; ended = true; failed = false })
+    (own_of c.args.service.now.lock c.add_text.new.adder.pass))
     (c.deref.ensures.value ∙ c.in-Ok.ensures.text) c.add_text.ensures.first
 
 pub returns-in-Ok-clause-all : goal.returns-in-Ok-clause-all

@@ -11,6 +11,7 @@ loop-count-init g c = record {
   reached = nothing_reached c.new-reader.result
       (progress_by c.args.service.now.lock c.args.adder.now) _ c.new-reader.ensures c.requires.new;
   source_faults = search rules;
+  opened = λ name is. is;
   unended = c.requires.unread;
   room = search rules;
 }
@@ -62,6 +63,7 @@ loop-count-preserved g c = record {
       (progress_by c.args.service.now.lock c.add_piece.new.adder) _ _ _ _ c.in-Ok.ensures.bytes
       c.loop-count.invariant.reached (rw c.in-None.is at c.add_piece.ensures.through);
   source_faults = c.in-Ok.ensures.cause.ok ∙ c.loop-count.invariant.source_faults;
+  opened = λ name is. c.in-Ok.ensures.opened name (c.loop-count.invariant.opened name is);
   unended = goes_on _ _ c.in-Ok.count _ c.in-Ok.ensures.ended c.loop-count.invariant.unended
       c.if-count-eq0.false;
   room = search rules;

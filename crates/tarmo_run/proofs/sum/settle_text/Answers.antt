@@ -8,14 +8,17 @@ use Rattle.tarmo_run.proofs.Sums.{asks_all, asks_more, asks_none, asks_some}
 use Rattle.tarmo_run.proofs.sum.settle_text.Goals as goal
 
 pub returns-in_err-fed-clause-first : goal.returns-in_err-fed-clause-first
-returns-in_err-fed-clause-first c = asks_none (progress_of c.args.desk.now) _ (new_at_first _ c.requires.fresh)
+returns-in_err-fed-clause-first c = asks_none (progress_of c.args.desk.now) _
+    (new_at_first _ c.requires.fresh)
 
 pub returns-in_err-rest-clause-first : goal.returns-in_err-rest-clause-first
-returns-in_err-rest-clause-first c = asks_none (progress_of c.args.desk.now) _ (new_at_first _ c.requires.fresh)
+returns-in_err-rest-clause-first c = asks_none (progress_of c.args.desk.now) _
+    (new_at_first _ c.requires.fresh)
 
 pub returns-in_err-advance-clause-first : goal.returns-in_err-advance-clause-first
 returns-in_err-advance-clause-first c =
-    asks_some (progress_of c.args.desk.now) (progress_of c.advance.new.self) c.args.text.now c.in_ok-fed.fed.statements
+    asks_some (progress_of c.args.desk.now) (progress_of c.advance.new.self) c.args.text.now
+    c.in_ok-fed.fed.statements
     c.in_ok-rest.rest.statements (c.in_ok-fed.ensures.given _ c.new-reader.ensures)
     (c.in_ok-rest.ensures.given _ (c.in_ok-fed.ensures.read _ c.new-reader.ensures))
     (new_at_first _ c.requires.fresh)

@@ -1,21 +1,28 @@
-use Rattle.std.proofs.Common.{◌≡◌, ◌∙◌, ◌⊎◌, subst, map, string_bytes}
-use Rattle.std.specs.Prelude.{MatchOption}
+use Rattle.std.proofs.Common.{◌≡◌, ℕ, List, Option, Some, true, refl, subst, sym, map, option_map, string_bytes}
 use Rattle.entry_core.specs.declared.rules.Rules.{Rules}
-use Rattle.words.specs.Accepted.{accepted}
-use Rattle.tarmo_run.specs.Output.{IsAnswered}
-use Rattle.tarmo_run.proofs.Completeness.{complete_over, not_broken, same_shared_rules}
-use Rattle.tarmo_run.proofs.Reached.{unfailing}
+use Rattle.entry_core.specs.Legal.{AreWithinLimits}
+use Rattle.words.specs.declared.command.Work.{Work}
+use Rattle.words.specs.Accepted.{Asked, accepted, input_of}
+use Rattle.tarmo_run.specs.Asking.{shared_rules_of}
+use Rattle.tarmo_run.proofs.Promises.{over_sum, over_text, without_memory, words_refused}
 use Rattle.tarmo_run.proofs.top.run.Goals as goal
 
-pub returns-in-Text-clause-complete : goal.returns-in-Text-clause-complete
-returns-in-Text-clause-complete g c = λ command name text accepts work told source_same sink_same.
-    subst (λ (given : Rules). MatchOption c.run_text.result.board (c.run_text.result.status ≡ 6)
-    (λ board. IsAnswered given.traces text (g.O.Sink.taken c.args.out.now)
-    (g.O.Sink.taken c.run_text.new.out) c.run_text.result.status board
-    ⊎ (c.run_text.result.status ≡ 6)))
-    (c.shared_rules-rules.ensures
-    ∙ same_shared_rules (accepted (map string_bytes c.args.words.now)) _ command
-    c.in-Ok.ensures.shared accepts)
-    (complete_over c.run_text.result.board c.shared_rules-rules.result c.run_text.result.status
-    text _ _ _ _ _ _ told c.run_text.ensures.whole (unfailing _ _ source_same)
-    (not_broken _ _ _ c.run_text.ensures.sink sink_same) c.run_text.ensures.run)
+pub returns-in-Text : goal.returns-in-Text
+returns-in-Text g c =
+    over_text g.S.Source.left g.S.Source.faults g.S.Source.ended g.S.Source.opened g.O.Sink.taken
+    g.O.Sink.faults shared_rules_of (map string_bytes c.args.words.now) c.args.source.now
+    c.run_text.new.source c.args.out.now c.run_text.new.out c.run_text.result
+    c.shared_rules-rules.result (option_map string_bytes c.in-Text.file)
+    c.verdicts_have_causes.ensures c.large_budgets_answer.ensures
+    (subst (λ (given : Rules). option_map shared_rules_of (accepted (map string_bytes c.args.words.now))
+    ≡ Some given) (sym c.shared_rules-rules.ensures) c.in-Ok.ensures.shared)
+    (subst (λ (work : Work). (command : Asked) →
+    accepted (map string_bytes c.args.words.now) ≡ Some command → command.work ≡ input_of work)
+    c.in-Text.is c.in-Ok.ensures.work)
+    (λ command. refl)
+    (subst AreWithinLimits (sym c.shared_rules-rules.ensures) c.in-Ok.ensures.few)
+    c.run_text.ensures.run c.run_text.ensures.closed
+    (λ three four six. subst (λ (name : Option (List ℕ)).
+    g.S.Source.opened c.run_text.new.source name ≡ true) c.as_deref.ensures.value
+    (c.run_text.ensures.opened three four six))
+    c.run_text.ensures.whole c.run_text.ensures.sink c.run_text.ensures.counts

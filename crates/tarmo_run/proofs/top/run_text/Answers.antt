@@ -3,6 +3,7 @@ use Rattle.service.specs.Passes.{BoardLock}
 use Rattle.tarmo_run.proofs.Finishing.{finished_in_blocks, ran_in_part, ran_through}
 use Rattle.tarmo_run.proofs.Finishing.{reads_in_part, reads_same}
 use Rattle.tarmo_run.proofs.Gathering.{left_counted, left_front, left_written, none_printed}
+use Rattle.tarmo_run.proofs.Uncut.{done_by_status}
 use Rattle.tarmo_run.proofs.top.run_text.Goals as goal
 
 pub returns-then-failed-clause-run : goal.returns-then-failed-clause-run
@@ -21,7 +22,7 @@ returns-then-failed-clause-run g c =
     c.give_up.ensures.more c.give_up.ensures.settled
     (finished_in_blocks _ _ _ _ _ _ _ _
     (reads_in_part c.solve_text-ending.result _ _ _ _ _
-    (reads_same _ _ _ _ _ _ _ left.jobs c.solve_text-ending.ensures.through))
+    (reads_same _ _ _ _ _ _ _ left.jobs c.solve_text-ending.ensures.read.through))
     (left_front _ crew _ _ _ _ left (sym c.disband-board.ensures.failed ∙ c.if-failed.true)
     printed)))
 
@@ -47,7 +48,7 @@ returns-in-Ok-clause-run g c =
     c.status-status.result (c.finish_text.ensures.more.longer.rules ∙ rules)
     c.hand_over-in-Ok.ensures.legal c.status-status.ensures
     (c.in-Ok.ensures.finished _ _ _ _ _
-    (reads_same _ _ _ _ _ _ _ left.jobs c.solve_text-ending.ensures.through)
+    (reads_same _ _ _ _ _ _ _ left.jobs c.solve_text-ending.ensures.read.through)
     (left_written _ crew _ _ _ _ _ c.solve_text-ending.ensures.whole left
     c.disband-board.ensures.writer well printed)
     (left.none_cancelled well)))
@@ -69,6 +70,21 @@ returns-in-Err-clause-run g c =
     c.hand_over-in-Err.ensures.legal refl c.give_up-in-Err.ensures.more
     c.give_up-in-Err.ensures.settled
     (c.in-Err.ensures.front _ _ _ _ _
-    (reads_same _ _ _ _ _ _ _ left.jobs c.solve_text-ending.ensures.through)
+    (reads_same _ _ _ _ _ _ _ left.jobs c.solve_text-ending.ensures.read.through)
     (left_written _ crew _ _ _ _ _ c.solve_text-ending.ensures.whole left
     c.disband-board.ensures.writer well printed)))
+
+pub returns-then-failed-clause-opened : goal.returns-then-failed-clause-opened
+returns-then-failed-clause-opened g c =
+    rw c.hand_over.ensures.parts (λ three four six. absurd (four refl))
+
+pub returns-in-Ok-clause-opened : goal.returns-in-Ok-clause-opened
+returns-in-Ok-clause-opened g c =
+    rw c.hand_over-in-Ok.ensures.parts
+    (λ three four six. done_by_status c.solve_text-ending.result c.in-Ok.told
+    c.finish_text.new.board c.status-status.result _ c.in-Ok.ensures.which
+    c.status-status.ensures c.solve_text-ending.ensures.read.named three six)
+
+pub returns-in-Err-clause-opened : goal.returns-in-Err-clause-opened
+returns-in-Err-clause-opened g c =
+    rw c.hand_over-in-Err.ensures.parts (λ three four six. absurd (four refl))
