@@ -6,7 +6,7 @@ JOBS ?= $(shell nproc)
 
 .PHONY: run try prove install examples test bench profile
 .PHONY: bench-reader bench-checker bench-trace bench-learning bench-board bench-lock bench-service
-.PHONY: bench-sums bench-layouts bench-holds wanting
+.PHONY: bench-sums bench-layouts bench-holds hostile wanting races
 
 # Proves what isn't proved yet, crates side by side, and says which; then builds the program and
 # solves FILE.
@@ -58,9 +58,18 @@ profile:
 bench-holds:
 	bench/holds.py
 
-# What the built program writes on FILE where one growth of its memory after the other is refused.
+# The built program where files, pipes and memory fail it; where each growth of its memory is refused
+# in turn, on one worker and on four; and in 10,000 runs on 1 to 16 workers beside what all
+# assignments say of their texts.
+hostile: wanting races
+	bench/hostile.py
+
 wanting:
-	bench/wanting.py $(FILE)
+	bench/wanting.py --workers 1
+	bench/wanting.py --workers 4
+
+races:
+	bench/races.py
 
 # The reader beside cat, a C loop, and the parsers of minisat and cadical where they are installed.
 bench-reader:

@@ -8,7 +8,8 @@
 #include <stdatomic.h>
 #include <stdio.h>
 #include <stdlib.h>
-#include <string.h>
+#include <sys/syscall.h>
+#include <unistd.h>
 
 extern void *__libc_malloc(size_t);
 extern void *__libc_calloc(size_t, size_t);
@@ -36,6 +37,13 @@ __attribute__((destructor)) static void end(void) {
     if (file == NULL) return;
     fprintf(file, "%lu\n", count);
     fclose(file);
+}
+
+// The program ends by this call, after which no destructor runs.
+void _exit(int status) {
+    end();
+    syscall(SYS_exit_group, status);
+    __builtin_unreachable();
 }
 
 static int is_refused(void) {

@@ -164,7 +164,7 @@ refuted_by rules journal job (Some verdict.Starved) legal is so = absurd (cc)
 pub runs_agree : RunsAgree
 runs_agree text first second job one_run other_run there also so not_so =
     let model = satisfied_by first.board.rules first.board.journal job _ one_run.run.legal refl so
-        in
+    in
     let part = refuted_by second.board.rules second.board.journal job _ other_run.run.legal refl
     not_so in
     let same : Some (record {

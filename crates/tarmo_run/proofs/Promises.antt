@@ -188,13 +188,16 @@ module _ {S O : Type 0} (left : S → Option (List ℕ)) (source_faults : S → 
       not_five : (status : ℕ) → (status ≡ 6) ⊎ (status ≡ 4) → status ≡ 5 → ⊥
       not_five status (inl is) e = omega (arith, is, e)
       not_five status (inr is) e = omega (arith, is, e)
+
       not_three : (status : ℕ) → (status ≡ 6) ⊎ (status ≡ 4) → status ≡ 3 → ⊥
       not_three status (inl is) e = omega (arith, is, e)
       not_three status (inr is) e = omega (arith, is, e)
+
       neither_of : (status : ℕ) → (status ≡ 6) ⊎ (status ≡ 4) → (status ≡ 4 → ⊥) →
           (status ≡ 6 → ⊥) → ⊥
       neither_of status (inl is) four six = six is
       neither_of status (inr is) four six = four is
+
       six_of : (status : ℕ) → (status ≡ 6) ⊎ (status ≡ 4) → (status ≡ 4 → ⊥) → status ≡ 6
       six_of status (inl is) four = is
       six_of status (inr is) four = absurd (four is)
@@ -295,6 +298,7 @@ module _ {S O : Type 0} (left : S → Option (List ℕ)) (source_faults : S → 
     where
       there : (board : State) → Some board ≡ None → ⊥
       there board none = cc
+
       rises : (before now : ℕ) → nat_lt before now ≡ true → before < now
       rises before now is = grind (arith, nat_tests)
 

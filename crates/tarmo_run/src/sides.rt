@@ -165,7 +165,11 @@ fn three_sides<R: Threads + Wait + Sync, S: Source, O: Sink + Send, G: Gate>(
                 × HasReadText S.left S.faults S.ended S.opened service.entry.now.lock
                 (option_map (λ bytes. bytes.now) file.entry) result adder.exit.now
                 source.entry.now source.exit.now }
-        { reader_and_workers(rt, alloc, service, meeting, file, workers, adder, source, gate) },
+        {
+            reader_and_workers(
+                rt, alloc, service, meeting, file, workers, adder, source, gate,
+            )
+        },
     );
     ending
 }

@@ -31,7 +31,12 @@ fn under_first_a_job_before_the_model_is_never_cancelled(rt: HostRuntime) -> Res
     for workers in WORKERS {
         let run = run_on(&rt, rt.alloc(), workers, &case)?;
         if run.status == 1 {
-            assert_output(&rt, &run, "j 1 SATISFIABLE\nv 1 0\nj 2 CANCELLED\nend 2\n", 1);
+            assert_output(
+                &rt,
+                &run,
+                "j 1 SATISFIABLE\nv 1 0\nj 2 CANCELLED\nend 2\n",
+                1,
+            );
         } else {
             assert_output(&rt, &run, TWO_ANSWERS, 0);
         }

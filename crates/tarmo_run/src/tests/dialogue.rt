@@ -10,8 +10,8 @@ use run_io::{DoorGate, DoorSink, DoorSource, Failed, NoGate, Sink, Source};
 use std::alloc::{AllocError, Global};
 use std::process::Abort;
 use std::sync::Wait;
-use std::sync::atomic::{AtomicBool, AtomicUsize};
 use std::sync::atomic::Ordering::SeqCst;
+use std::sync::atomic::{AtomicBool, AtomicUsize};
 use std::test::Fail;
 use std::thread::{self, Threads};
 
@@ -148,7 +148,6 @@ fn assert_talks<R: Threads + Wait + Sync + Abort>(
     assert_answered(rt, finish.status, &writes);
     Ok(())
 }
-
 
 // The source reads on only where a job was answered, and then only where its block was written.
 fn assert_goes_through_doors<R: Threads + Wait + Sync + Abort>(

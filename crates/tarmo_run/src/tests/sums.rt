@@ -25,14 +25,14 @@ fn sum_up<R: Threads + Wait + Sync>(
     Ok((finish, taken))
 }
 
-fn answered(board: &Board) -> usize {
-    let mut count = 0;
+fn answered(board: &Board) -> u32 {
+    let mut count: u32 = 0;
     for job in 1..=board.jobs() {
         if matches!(
             board.outcome(job),
             Ok(Outcome::Model) | Ok(Outcome::Refuted)
         ) {
-            count += 1;
+            count = count.saturating_add(1);
         }
     }
     count
