@@ -1,4 +1,13 @@
 //! What a board keeps beside its journal, so that no call walks the journal.
+//!
+//! The journal is what happened and alone decides what is legal; the index says again what each
+//! call asks of it, by number: how a job stands, which segment and which packet has a number, which
+//! job an attempt is at. A hold of the lock is as long as the call in it, and every worker waits for
+//! it, so a call may cost a logarithm in the jobs at most. Therefore the jobs that wait stand in a
+//! tournament and not in a list that is searched, sums of clauses and literals are kept and not
+//! counted, and under the rule that a model cancels later jobs the last model is remembered: no two
+//! models look at the same job. All that grows with jobs, attempts and packets is reserved by the
+//! call that adds one, so that ends of attempts and the closing take no memory and can't fail.
 
 ghost use Rattle.std.specs.Prelude.{◌≡◌, ◌+◌, ◌-◌, ◌≤◌, Some, length, slice_set};
 ghost use Rattle.std.specs.Prelude.{is_some, if◌then◌else◌};
@@ -133,7 +142,8 @@ impl Index {
         ensures jobs { AreOvertaken by (last_of self.old.models (length self.old.jobs.items))
             self.old.jobs.items self.new.jobs.items }
         ensures ranked { self.new.waiting ≡ ranks_from most 1 self.new.jobs.items }
-        ensures settled { self.new.settled + ended_up_to self.old.jobs.items (length self.old.jobs.items)
+        ensures settled { self.new.settled
+            + ended_up_to self.old.jobs.items (length self.old.jobs.items)
             ≡ self.old.settled + ended_up_to self.new.jobs.items (length self.old.jobs.items) }
         ensures no_fewer { self.old.settled ≤ self.new.settled }
         ensures rest { self.new ≡ overtaken_at self.old self.new by }

@@ -2,3 +2,5 @@ pub mod Arena
 pub mod Named
 pub mod Naming
 pub mod Layout
+pub mod Kept
+pub mod Compaction

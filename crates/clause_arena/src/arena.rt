@@ -1,10 +1,22 @@
 //! Clauses in one block of memory.
+//!
+//! Propagation reads clauses in an order that nobody foresees, so what counts is how many pieces of
+//! memory one look touches. A clause with a heap block of its own would cost a pointer, the block's
+//! header and a jump; here its literals lie between two bounds, behind those of the clause that was
+//! added before it. Tags and origins, which only derivations need, stand in arrays of their own, so
+//! that propagation doesn't load them. The two watched literals are the first two of a clause:
+//! nothing else says which they are, and a watch changes by `swap`. Clauses leave from the end, so
+//! a number is a name that stays: in the lists of watches, as the reason of a literal, and for the
+//! derivation that made the clause. Only `keep` moves clauses and numbers them anew, for an owner
+//! that has no such name left.
 
 ghost use Rattle.std.specs.Prelude.{◌≡◌, ℕ, ◌<◌, List, [], ◌∷◌, ◌++◌, length, take, All, IfOk};
 ghost use Rattle.std.specs.Prelude.{OnOk, OnErr};
 ghost use Rattle.clause_arena.specs.Arena.{HasNoRepeat, clause_at, with_places_swapped};
+ghost use Rattle.clause_arena.specs.Kept.{kept_of};
 ghost use Rattle.clause_arena.specs.Layout.{begun};
 
+use crate::compaction::compact;
 use crate::names::Names;
 use sat_base::{Clause, Lit, Ref};
 use std::alloc::{AllocError, Global};
@@ -128,6 +140,16 @@ impl Arena {
             self.bounds.truncate(len + 1);
         }
     }
+
+    /// Keeps exactly the clauses that have `true` in `keep`, in order, numbered anew from 0; there
+    /// is one item for each clause. Takes no memory.
+    pub fn keep(&mut self, keep: &[bool])
+        requires { length keep.now ≡ length self.old }
+        ensures { self.new ≡ kept_of keep.now self.old }
+    {
+        let kept = compact(&mut self.lits, &mut self.bounds, &mut self.names, keep);
+        self.bounds.truncate(kept + 1);
+    }
 }
 
 // The first bound, where there is none, and room for two: an `add` then ends with no want of
@@ -144,88 +166,4 @@ fn begin(bounds: &mut Vec<u32>) -> Result<(), AllocError>
 }
 
 #[cfg(test)]
-mod tests {
-    use super::*;
-    use std::test::Fail;
-
-    fn clause(alloc: Global, numbers: &[i32]) -> Result<Clause, AllocError> {
-        let mut lits = Vec::new(alloc);
-        for number in numbers {
-            if let Some(lit) = Lit::of(*number) {
-                lits.push(lit)?;
-            }
-        }
-        Clause::from_lits(alloc, &lits)
-    }
-
-    #[test]
-    fn clauses_keep_their_literals_tags_and_origins(rt: HostRuntime) -> Result<(), Fail> {
-        let alloc = rt.alloc();
-        let mut arena = Arena::new(alloc);
-        let first = clause(alloc, &[1, 2])?;
-        assert_eq!(rt; arena.add(&first, 1, Ref::Input(1))?, 0);
-        let shared = Ref::Shared {
-            packet: 4_194_304,
-            step: 65_536,
-        };
-        for (id, origin) in [(1, Ref::Own(4_294_967_296)), (2, shared), (3, Ref::Own(7))] {
-            let second = clause(alloc, &[-3, 4, 1])?;
-            assert_eq!(rt; arena.add(&second, 5, origin)?, id);
-        }
-        assert_eq!(rt; arena.len(), 4);
-        assert_eq!(rt; arena.lits(0).len(), 2);
-        arena.swap(0, 0, 1);
-        for (id, numbers) in [(0, [2, 1].as_slice()), (1, [1, -3, 4].as_slice())] {
-            assert!(rt; id < arena.len());
-            assert_eq!(rt; arena.lits(id).len(), numbers.len());
-            for (lit, number) in arena.lits(id).iter().zip(numbers) {
-                assert_eq!(rt; lit.number(), *number);
-            }
-        }
-        let rows = [
-            (0, 1, Ref::Input(1)),
-            (1, 5, Ref::Own(4_294_967_296)),
-            (2, 5, shared),
-            (3, 5, Ref::Own(7)),
-        ];
-        for (id, tag, origin) in rows {
-            assert!(rt; id < arena.len());
-            assert_eq!(rt; arena.tag(id), tag);
-            assert_eq!(rt; arena.origin(id), origin);
-        }
-        Ok(())
-    }
-
-    #[test]
-    fn clauses_are_taken_back_and_added_anew(rt: HostRuntime) -> Result<(), Fail> {
-        let alloc = rt.alloc();
-        let mut arena = Arena::new(alloc);
-        arena.truncate(0);
-        let numbers = [1, 2, 3].as_slice();
-        for tag in 1..4 {
-            let _ = arena.add(&clause(alloc, numbers)?, tag, Ref::Own(4_294_967_296))?;
-        }
-        for (len, left) in [(4, 3), (3, 3), (1, 1)] {
-            arena.truncate(len);
-            assert_eq!(rt; arena.len(), left);
-        }
-        let added = clause(alloc, &[-4])?;
-        assert_eq!(rt; arena.add(&added, 9, Ref::Own(4_294_967_297))?, 1);
-        let rows = [
-            (0, 1, Ref::Own(4_294_967_296), numbers),
-            (1, 9, Ref::Own(4_294_967_297), [-4].as_slice()),
-        ];
-        for (id, tag, origin, numbers) in rows {
-            assert!(rt; id < arena.len());
-            assert_eq!(rt; arena.tag(id), tag);
-            assert_eq!(rt; arena.origin(id), origin);
-            assert_eq!(rt; arena.lits(id).len(), numbers.len());
-            for (lit, number) in arena.lits(id).iter().zip(numbers) {
-                assert_eq!(rt; lit.number(), *number);
-            }
-        }
-        arena.truncate(0);
-        assert_eq!(rt; arena.len(), 0);
-        Ok(())
-    }
-}
+mod tests;

@@ -7,6 +7,7 @@
 #![tactic(auto)]
 
 mod arena;
+mod compaction;
 mod names;
 
 pub use arena::Arena;

@@ -1,7 +1,7 @@
 //! Tags and origins of clauses, twelve bytes for each.
 
 ghost use Rattle.std.specs.Prelude.{◌≡◌, ℕ, ◌<◌, [], ◌∷◌, ◌++◌, length, take, IfSome, IfOk, OnOk};
-ghost use Rattle.std.specs.Prelude.{OnErr};
+ghost use Rattle.std.specs.Prelude.{OnErr, slice_set};
 ghost use Rattle.clause_arena.specs.Named.{named_at, ref_of, IsAmong, IsPlain};
 
 use sat_base::Ref;
@@ -102,6 +102,15 @@ impl Names {
         ensures { self.new ≡ take n self.old }
     {
         self.names.truncate(n);
+    }
+
+    // Puts the name of one clause in the place of another's.
+    pub(crate) fn copy(&mut self, from: usize, to: usize)
+        requires from { from < length self.old }
+        requires to { to < length self.old }
+        ensures { self.new ≡ slice_set self.old to (named_at self.old from) }
+    {
+        self.names[to] = self.names[from];
     }
 
     pub(crate) fn push(&mut self, tag: u32, origin: Ref) -> Result<(), AllocError>

@@ -1,3 +1,4 @@
+pub mod DecidedOnce
 pub mod Inputs
 pub mod LargeBudgets
 pub mod LegalEntries

@@ -1,15 +1,20 @@
 -- Laws of legal journals.
-use Rattle.std.specs.Prelude.{◌≡◌, ℕ, ◌^◌, ◌≤◌, Some, List, [], ◌∷◌, ◌++◌, length, All, Contains}
+use Rattle.std.specs.Prelude.{◌≡◌, ℕ, ◌^◌, ◌≤◌, Option, Some, None, List, [], ◌∷◌, ◌++◌, length}
+use Rattle.std.specs.Prelude.{All, Contains}
 use Rattle.sat_base.specs.Lit.{IsTautology, greatest_of, greatest_of_all, variables}
 use Rattle.sat_base.specs.Truth.{Entails}
+use Rattle.trace_core.specs.Known.{item_at}
 use Rattle.trace_core.specs.Trace.{AreOkPackets}
 use Rattle.trace_core.specs.declared.derivation.Step.{Step}
 use Rattle.entry_core.specs.declared.answers.Verdict.{Verdict}
 use Rattle.entry_core.specs.declared.answers.Verdict.TheVariants as verdict
 use Rattle.entry_core.specs.declared.entries.Entry.{Entry}
+use Rattle.entry_core.specs.declared.entries.Event.{Event}
+use Rattle.entry_core.specs.declared.entries.Event.TheVariants as event
 use Rattle.entry_core.specs.declared.rules.Rules.{Rules}
 use Rattle.entry_core.specs.Journal.{jobs, inputs, inputs_of, clauses_of, cube_of, packets}
-use Rattle.entry_core.specs.Settled.{settled}
+use Rattle.entry_core.specs.Attempts.{attempt}
+use Rattle.entry_core.specs.Settled.{job_of, settled}
 use Rattle.entry_core.specs.Legal.{AreWithinLimits, IsLegal}
 use Rattle.entry_core.specs.Causes.{HasCause}
 
@@ -73,3 +78,20 @@ LargeBudgetsAnswer =
     (rules : Rules) (journal : List Entry) (job : ℕ) → IsLegal rules journal → AreWithinLimits rules
     → settled rules journal job ≡ Some verdict.Spent
     → rules.conflicts ≤ 3 ^ variables (clauses_of journal job) (cube_of journal job)
+
+-- the job whose attempt the event ends with an answer
+abbrev pub decided_by : List Entry → Event → Option ℕ
+decided_by journal (event.Decided number given) = job_of (attempt journal number)
+decided_by journal _ = None
+
+-- The entry at the place, counted from 1, decides the job.
+pub record Decides (journal : List Entry) (job place : ℕ) : Type 0 where
+  pub entry : Entry
+  pub there : item_at journal place ≡ Some entry
+  pub decided : decided_by journal entry.event ≡ Some job
+
+-- At most one entry of a legal journal decides a job.
+abbrev pub JobsAreDecidedOnce : Type 0
+JobsAreDecidedOnce =
+    (rules : Rules) (journal : List Entry) (job first second : ℕ) → IsLegal rules journal
+    → Decides journal job first → Decides journal job second → first ≡ second

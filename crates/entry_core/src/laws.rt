@@ -1,7 +1,8 @@
 //! Laws over the definitions alone, each as the contract of a function that does nothing.
 
-ghost use Rattle.entry_core.specs.Law.{LargeBudgetsAnswer, LongerJournalKeeps, PacketsAreBounded};
-ghost use Rattle.entry_core.specs.Law.{PacketsAreOk, SharedStepsFollow, VerdictsHaveCauses};
+ghost use Rattle.entry_core.specs.Law.{JobsAreDecidedOnce, LargeBudgetsAnswer, LongerJournalKeeps};
+ghost use Rattle.entry_core.specs.Law.{PacketsAreBounded, PacketsAreOk, SharedStepsFollow};
+ghost use Rattle.entry_core.specs.Law.{VerdictsHaveCauses};
 
 /// In a legal journal every step of a shared packet follows from the input clauses up to its tag.
 pub fn shared_steps_follow()
@@ -35,4 +36,9 @@ pub fn verdicts_have_causes()
 /// variables.
 pub fn large_budgets_answer()
     ensures { LargeBudgetsAnswer }
+{}
+
+/// In a legal journal at most one entry decides a job.
+pub fn jobs_are_decided_once()
+    ensures { JobsAreDecidedOnce }
 {}

@@ -1,4 +1,13 @@
 //! A binary heap of variables, by index.
+//!
+//! A search takes the best free variable, raises scores of variables wherever they stand, and puts
+//! back those that became free. So each variable knows its place in the order: a bump moves it up
+//! from there, and to put back one that still waits is one look. A heap of pairs without places
+//! would hold a variable once for each of its bumps, and grow with conflicts. The order is one of
+//! all variables, those that wait in front, so that only `reserve` takes memory: what is taken
+//! changes places with the last that waits. Score, rank and place stand side by side, since a match
+//! of two variables reads the first two and their exchange writes the third. Equal scores are
+//! decided by rank, so that two searches that learnt the same decide the same.
 
 ghost use Rattle.std.specs.Prelude.{◌≡◌, ◌≢◌, ℕ, ◌+◌, ◌*◌, ◌/◌, ◌<◌, ◌≤◌, min, max, [], length};
 ghost use Rattle.std.specs.Prelude.{not, IsTrue, IfSome, IfNone, OnOk, OnErr};

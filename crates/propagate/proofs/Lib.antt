@@ -15,3 +15,4 @@ pub mod Choices
 pub mod Settles
 pub mod Stores
 pub mod Rounds
+pub mod Renewed

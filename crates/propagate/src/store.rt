@@ -3,12 +3,17 @@
 ghost use Rattle.std.specs.Prelude.{◌≡◌, ◌+◌, ◌<◌, ◌≤◌, nat_lt, max, [], ◌∷◌, ◌++◌, length, take};
 ghost use Rattle.std.specs.Prelude.{All, IfOk, OnOk, OnErr};
 ghost use Rattle.std.specs.List.{filter};
+ghost use Rattle.clause_arena.specs.Arena.{lits_of_each};
+ghost use Rattle.clause_arena.specs.Kept.{kept_of};
+ghost use Rattle.trail_core.specs.UnderTrail.{IsFounded};
 ghost use Rattle.propagate.specs.Store.{AreWithin, AreAllWithin, AreNewFrom};
+ghost use Rattle.propagate.specs.Pairing.{AreFit};
 
 use clause_arena::Arena;
 use sat_base::{Clause, Ref};
 use std::alloc::{AllocError, Global};
 use std::marker::Model;
+use trail_core::Trail;
 use watch_ring::WatchRing;
 
 /// An arena of clauses with what propagation needs to find them. Contracts see a store as its
@@ -94,6 +99,30 @@ impl Store {
         ensures vars { self.new.vars ≡ self.old.vars }
     {
         self.arena.truncate(len);
+    }
+
+    /// Keeps exactly the clauses that have `true` in `keep`, in order, numbered anew from 0; there
+    /// is one item for each clause, and the trail is at level 0. All clauses are new to propagation
+    /// then, and no literal counts as looked at. The reasons on the trail name clauses by their old
+    /// numbers, so they mean nothing any more; at level 0 a founded trail needs none. Takes no
+    /// memory.
+    pub fn keep(&mut self, trail: &mut Trail, keep: &[bool])
+        requires size { length keep.now ≡ length self.old.clauses }
+        requires depth { trail.old.depth ≡ 0 }
+        ensures clauses { self.new.clauses ≡ kept_of keep.now self.old.clauses }
+        ensures fresh { AreNewFrom self.new 0 }
+        ensures vars { self.new.vars ≡ self.old.vars }
+        ensures trail { trail.new ≡ record trail.old { looked = 0 } }
+        ensures fit { AreFit self.new trail.new }
+        ensures founded { IsFounded
+            (lits_of_each self.new.clauses) trail.new.entries trail.new.depth }
+    {
+        // Brings that no level is above the depth.
+        let _ = trail.depth();
+        self.arena.keep(keep);
+        self.ring.clear();
+        self.watched = 0;
+        trail.mark(0);
     }
 
     /// The clauses.

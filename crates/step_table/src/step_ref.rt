@@ -1,12 +1,13 @@
 //! One step of a table.
 
-ghost use Rattle.std.specs.Prelude.{◌≡◌, ℕ, ◌<◌, length, slice_index_or};
+ghost use Rattle.std.specs.Prelude.{◌≡◌, ℕ, ◌<◌, length, slice_index_or, IfOk};
 ghost use Rattle.sat_base.specs.Lit.{IsLitSet};
 ghost use Rattle.sat_base.specs.declared.origins.Ref.TheVariants.{Own};
 ghost use Rattle.step_table.specs.Table.{step_at};
 
 use crate::Steps;
-use sat_base::{Lit, Ref};
+use sat_base::{Clause, Lit, Ref};
+use std::alloc::{AllocError, Global};
 use std::marker::Model;
 
 /// A step where it stands in its table. Contracts see the step.
@@ -42,6 +43,14 @@ impl<'a> StepRef<'a> {
         ensures set { IsLitSet result.now }
     {
         self.steps.lits(self.index)
+    }
+
+    /// A copy of its clause.
+    pub fn clause(&self, alloc: Global) -> Result<Clause, AllocError>
+        ensures { IfOk result (λ clause. clause ≡ self.now.clause) }
+    {
+        let lits = Vec::from_slice(alloc, self.lits())?;
+        Ok(Clause::of_ascending(lits))
     }
 
     /// How many hints it has.

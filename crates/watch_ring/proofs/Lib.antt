@@ -2,3 +2,4 @@ pub mod Lists
 pub mod Chains
 pub mod Steps
 pub mod Kept
+pub mod Cleared

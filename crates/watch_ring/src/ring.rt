@@ -1,4 +1,14 @@
 //! The lists.
+//!
+//! A clause watches two literals, and a watch moves in the midst of propagation, where nobody could
+//! answer that memory ran out. A growing array for each literal would take memory just then, and
+//! three words for a literal before its first watch. So the lists go through the clauses: a side of
+//! a clause has one link, to the next side in its list, and a literal has the first. To move a side
+//! is to unhook a link and hook it in front of another list, which takes no memory and leaves no
+//! gap to sweep up. Links go one way, since a walk knows the side that it came from. A side is a
+//! number of four bytes that tells the clause and which of its first two literals it is; so a clause
+//! takes eight bytes and a literal four. The price is that a walk learns the next clause only from
+//! the one that it looks at.
 
 ghost use Rattle.std.specs.Prelude.{◌≡◌, ◌≢◌, ℕ, ◌+◌, ◌*◌, ◌<◌, ◌≤◌, max, List, [], ◌∷◌, ◌++◌};
 ghost use Rattle.std.specs.Prelude.{length, OnOk};
@@ -161,6 +171,15 @@ impl WatchRing {
             None => self.heads[from.code() as usize] = after,
             Some((id, side)) => self.links[2 * id + side as usize] = after,
         }
+    }
+
+    /// Takes all sides from their lists. What is reserved stays so. Takes no memory.
+    pub fn clear(&mut self)
+        ensures lists { (lit : ℕ) → list_of self.new lit ≡ [] }
+        ensures vars { self.new.vars ≡ self.old.vars }
+        ensures clauses { self.new.clauses ≡ self.old.clauses }
+    {
+        self.heads.fill(Link::none());
     }
 }
 

@@ -210,3 +210,66 @@ fn cut(store: &mut Store, len: usize)
 {
     store.truncate(len);
 }
+
+// Throws away all clauses but those that have `true`.
+fn keep(rt: &impl Abort, store: &mut Store, trail: &mut Trail, keep: &[bool])
+    requires store { store.old.vars ≡ 400001 }
+    requires trail { trail.old.vars ≡ 400001 }
+    ensures store { store.new.vars ≡ 400001 }
+    ensures trail { trail.new.vars ≡ 400001 }
+    ensures all_new { AreNewFrom store.new 0 }
+    ensures fit { AreFit store.new trail.new }
+{
+    let clauses = store.arena().len();
+    assert!(rt; keep.len() == clauses);
+    assert!(rt; trail.depth() == 0);
+    store.keep(trail, keep);
+}
+
+// Propagates a store and a trail that fit together.
+fn go_on(store: &mut Store, trail: &mut Trail) -> Option<usize>
+    requires store { store.old.vars ≡ 400001 }
+    requires trail { trail.old.vars ≡ 400001 }
+    requires fit { AreFit store.old trail.old }
+    ensures store { store.new.vars ≡ 400001 }
+    ensures trail { trail.new.vars ≡ 400001 }
+    ensures settled { IfNone result (IsSettled store.new trail.new) }
+{
+    let _ = store.arena();
+    let _ = trail.depth();
+    propagate(store, trail)
+}
+
+// A clause that was kept forces its literal as before, under its new number, and one that was
+// thrown away doesn't; what was forced at level 0 stays.
+#[test]
+fn clauses_that_are_kept_force_as_before(rt: HostRuntime) -> Result<(), Fail> {
+    let alloc = rt.alloc();
+    let mut store = Store::new(alloc);
+    let mut trail = Trail::new(alloc);
+    store.reserve(VARS)?;
+    trail.reserve(VARS)?;
+    let _ = add(&rt, alloc, &mut store, &[7])?;
+    let _ = add(&rt, alloc, &mut store, &[-1, 2])?;
+    let _ = add(&rt, alloc, &mut store, &[-7, -1, 3])?;
+    match begin(&mut store, &mut trail) {
+        Some(_) => panic!(&rt; "a clause is false"),
+        None => {}
+    }
+    keep(&rt, &mut store, &mut trail, &[false, false, true]);
+    assert_eq!(rt; store.arena().len(), 1);
+    match go_on(&mut store, &mut trail) {
+        Some(_) => panic!(&rt; "a clause is false"),
+        None => {}
+    }
+    match decide(&rt, &mut store, &mut trail, 1) {
+        Some(_) => panic!(&rt; "a clause is false"),
+        None => {}
+    }
+    assert_eq!(rt; trail.lits().len(), 3);
+    assert_eq!(rt; trail.value(literal(&rt, 7)), Some(true));
+    assert_eq!(rt; trail.value(literal(&rt, 2)), None);
+    assert_eq!(rt; trail.value(literal(&rt, 3)), Some(true));
+    assert_eq!(rt; trail.reason(3), Some(0));
+    Ok(())
+}

@@ -1,7 +1,7 @@
 //! Texts, in pieces of whatever size, and their outputs.
 
 use super::outcomes::PIGEONS;
-use super::{Case, PLAIN, TWO_ANSWERS, TWO_JOBS, assert_output, run_in_pieces};
+use super::{Case, NONE, PLAIN, TWO_ANSWERS, TWO_JOBS, assert_case, assert_output, run_in_pieces};
 use std::alloc::{AllocError, Global};
 use std::process::Abort;
 use std::test::Fail;
@@ -52,6 +52,9 @@ pub(super) const ACCEPTED: &[(&str, &str)] = &[
         "p inccnf 3 4\r\n c note\r\n1 2 \r\nc inside\r\n0 -1\t0\r\na -2 0\r\n",
         "j 1 UNSATISFIABLE\nf -2 0\nend 1\n",
     ),
+    // A second 0 is an empty clause, and a line of one letter a comment.
+    ("p inccnf\n1 0 0\na 0\n", "j 1 UNSATISFIABLE\nf 0\nend 1\n"),
+    ("p inccnf\nc\na 0\n", "j 1 SATISFIABLE\nv 0\nend 1\n"),
 ];
 
 const UNFINISHED: &str = "j 1 SATISFIABLE\nv 1 0\nrefused 4 unfinished\n";
@@ -59,9 +62,20 @@ const UNFINISHED: &str = "j 1 SATISFIABLE\nv 1 0\nrefused 4 unfinished\n";
 pub(super) const REFUSED: &[(&str, &str)] = &[
     ("", "refused 1 header\n"),
     ("p cnf 2 1\n1 0\n", "refused 1 header\n"),
+    ("p\ninccnf", "refused 1 header\n"),
+    ("p inccnfx\n", "refused 1 header\n"),
+    ("c only\n", "refused 1 header\n"),
     ("p inccnf\n1 0\na 0\n2 3\n", UNFINISHED),
     ("p inccnf\n1 0\na 0\n2 3", UNFINISHED),
     ("p inccnf\n8388608 0\n", "refused 2 variable\n"),
+    (
+        "p inccnf\n99999999999999999999999 0\n",
+        "refused 2 variable\n",
+    ),
+    ("p inccnf\n\0", "refused 2 token\n"),
+    ("p inccnf\n-", "refused 2 token\n"),
+    ("p inccnf\na", "refused 2 unfinished\n"),
+    ("p inccnf\na a 0\n", "refused 2 token\n"),
     ("p inccnf\n01 0\n", "refused 2 token\n"),
     ("p inccnf\n+5 0\n", "refused 2 token\n"),
     ("p inccnf\n-0 0\n", "refused 2 token\n"),
@@ -103,5 +117,22 @@ fn the_jobs_before_a_wrong_place_have_their_blocks(rt: HostRuntime) -> Result<()
     for (text, output) in REFUSED {
         assert_in_pieces(rt.alloc(), &rt, text, output, 2)?;
     }
+    Ok(())
+}
+
+#[test]
+fn a_number_of_any_length_is_refused_at_its_line(rt: HostRuntime) -> Result<(), Fail> {
+    let mut text = String::from_str(rt.alloc(), "p inccnf\n")?;
+    for _ in 0..100000 {
+        text.push_str("9")?;
+    }
+    let case = Case {
+        text: &text,
+        output: "refused 2 variable\n",
+        status: 2,
+        outcomes: NONE,
+        ..PLAIN
+    };
+    assert_case(rt.alloc(), &rt, &case)?;
     Ok(())
 }

@@ -74,3 +74,30 @@ fn sides_join_move_and_leave(rt: HostRuntime) -> Result<(), Fail> {
     assert!(rt; ring.reserve(2, 2_147_483_648).is_err());
     Ok(())
 }
+
+// Empties the lists.
+fn clear(ring: &mut WatchRing)
+    ensures empty { (other : ℕ) → list_of ring.new other ≡ [] }
+    ensures vars { ring.new.vars ≡ ring.old.vars }
+    ensures clauses { ring.new.clauses ≡ ring.old.clauses }
+{
+    ring.clear();
+}
+
+#[test]
+fn cleared_lists_are_joined_again(rt: HostRuntime) -> Result<(), Fail> {
+    let lit = literal(&rt, 1);
+    let other = literal(&rt, -2);
+    let mut ring = WatchRing::new(rt.alloc());
+    ring.reserve(2, 2)?;
+    join_two(&mut ring, lit);
+    clear(&mut ring);
+    assert_eq!(rt; ring.first(lit), None);
+    assert_eq!(rt; ring.first(other), None);
+    join_two(&mut ring, other);
+    assert_eq!(rt; ring.first(lit), None);
+    assert_eq!(rt; ring.first(other), Some((1, 0)));
+    assert_eq!(rt; ring.next(1, 0), Some((0, 0)));
+    assert_eq!(rt; ring.next(0, 0), None);
+    Ok(())
+}
