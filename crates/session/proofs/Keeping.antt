@@ -115,10 +115,10 @@ pub learns_named : (s new : Search) → new ≡ record s {
   tags = new.tags;
   named = new.named;
   steps = new.steps;
-} → HasUnitsMore s.steps.items new.steps.items
+} → HasUnitsMore s.steps new.steps
     → Learns (solver_of s) (solver_of new) [] []
 learns_named s new parts more = learns_steps (solver_of s) (solver_of new) [] (ap solver_of parts)
-    (units_steps s.steps.items new.steps.items more)
+    (units_steps s.steps new.steps more)
 
 -- A round.
 pub round_stays : (old new : Search) (cube : List ℕ) (vars : ℕ) → IsInRound old cube vars
@@ -219,7 +219,7 @@ search_counted s restarts kept = record {
 
 -- a step came behind those that were there
 pub keeps_stepped : (s new : Search) → new ≡ record s { steps = new.steps }
-    → IsFront s.steps.items new.steps.items → Keeps (solver_of s) (solver_of new)
+    → IsFront s.steps new.steps → Keeps (solver_of s) (solver_of new)
 keeps_stepped s new parts front = keeps_steps (solver_of s) (solver_of new)
     (ap solver_of parts) front
 
@@ -228,7 +228,7 @@ pub keeps_named : (s new : Search) → new ≡ record s {
   tags = new.tags;
   named = new.named;
   steps = new.steps;
-} → IsFront s.steps.items new.steps.items
+} → IsFront s.steps new.steps
     → Keeps (solver_of s) (solver_of new)
 keeps_named s new parts front = keeps_steps (solver_of s) (solver_of new) (ap solver_of parts) front
 

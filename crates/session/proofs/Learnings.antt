@@ -191,7 +191,7 @@ pub search_taught : (s : Search) (store : StoreView) (trail : TrailView) (learnt
       reason = Some id;
     } ∷ [] → trail.depth ≡ s.trail.depth → trail.vars ≡ s.trail.vars
     → trail.looked ≡ s.trail.looked → IsTrail trail → id ≡ length s.store.clauses
-    → IsStep s.steps.items number (known_of step) → IsLitSet step.clause
+    → IsStep s.steps number (known_of step) → IsLitSet step.clause
     → AreWithin s.greatest step.clause
     → ((level : ℕ) → level < s.trail.depth → IsOpenClause
     (lits_of (up_to level s.trail.entries)) step.clause)
@@ -200,9 +200,9 @@ pub search_taught : (s : Search) (store : StoreView) (trail : TrailView) (learnt
     → (0 < s.trail.depth → s.store.fresh ≡ [])
     → IsSearching (record s { store = store; trail = trail; learnt = learnt })
 search_taught s store trail learnt step number id lit kept added fresh_is store_vars listed entries_are depth_is vars_are looked_is is_trail id_is is set within is_open others ready none = record {
-  stock = subst (λ clauses. IsStocked clauses (packets_of s) s.steps.items s.bound) (sym added)
+  stock = subst (λ clauses. IsStocked clauses (packets_of s) s.steps s.bound) (sym added)
       (stock_learnt s.store.clauses
-      (packets_of s) s.steps.items s.bound step number kept.stock is set.each set.ascending);
+      (packets_of s) s.steps s.bound step number kept.stock is set.each set.ascending);
   room = record {
     over = subst (λ clauses. AreAllWithin s.greatest clauses) (sym added)
         (All-push (λ (clause : ArenaClause). AreWithin s.greatest clause.lits) s.store.clauses clause kept.room.over within);
@@ -212,10 +212,10 @@ search_taught s store trail learnt step number id lit kept added fresh_is store_
     in_units = omega (arith, kept.room.in_units, vars_are);
     in_tags = omega (arith, kept.room.in_tags, vars_are);
   };
-  counted = subst (IsCounted store.clauses s.greatest s.inputs s.steps.items) (sym listed) (record {
+  counted = subst (IsCounted store.clauses s.greatest s.inputs s.steps) (sym listed) (record {
     greatest_is = counted.greatest_is;
     inputs_are = counted.inputs_are;
-    learnt_held = All-push (IsHeldStep s.steps.items (held_of store.clauses)) s.learnt.items number counted.learnt_held (
+    learnt_held = All-push (IsHeldStep s.steps (held_of store.clauses)) s.learnt.items number counted.learnt_held (
       known_of step,
       is,
       is_held (held_of s.store.clauses) (held_of store.clauses) (known_of step)
@@ -228,7 +228,7 @@ search_taught s store trail learnt step number id lit kept added fresh_is store_
       (sym depth_is) (forced_on_trail
       (lits_of_each store.clauses) s.trail.entries s.trail.depth entry on_added forced refl));
   named = subst (λ inputs. IsNamed (named_by inputs
-      (packets_of s) s.steps.items) trail.entries s.units.items s.tags.items s.named)
+      (packets_of s) s.steps) trail.entries s.units.items s.tags.items s.named)
       (sym inputs)
       (named_push (table_of s) s.trail.entries trail.entries s.units.items s.tags.items s.named entry entries_are kept.named);
   trail = is_trail;
@@ -253,8 +253,8 @@ search_taught s store trail learnt step number id lit kept added fresh_is store_
     held : held_of store.clauses ≡ held_of s.store.clauses ++ known_clause clause ∷ []
     held = ap held_of added ∙ map_push known_clause s.store.clauses clause
 
-    counted : IsCounted store.clauses s.greatest s.inputs s.steps.items s.learnt.items
-    counted = counted_beside s.store.clauses store.clauses s.greatest s.inputs s.steps.items s.learnt.items
+    counted : IsCounted store.clauses s.greatest s.inputs s.steps s.learnt.items
+    counted = counted_beside s.store.clauses store.clauses s.greatest s.inputs s.steps s.learnt.items
         (known_clause clause ∷ []) inputs held kept.counted
 
     on_added : IsOnTrail (lits_of_each store.clauses) s.trail.entries s.trail.depth
@@ -300,7 +300,7 @@ pub search_unlisted : (s : Search) (learnt : Vec ℕ Global) → IsSearching s
 search_unlisted s learnt kept same = record {
   stock = kept.stock;
   room = kept.room;
-  counted = subst (IsCounted s.store.clauses s.greatest s.inputs s.steps.items) (sym same) kept.counted;
+  counted = subst (IsCounted s.store.clauses s.greatest s.inputs s.steps) (sym same) kept.counted;
   on = kept.on;
   named = kept.named;
   trail = kept.trail;
@@ -482,8 +482,8 @@ lesson_free s lesson trail is l entries_are none =
     (unassigned_above s.trail.entries l.asserting.lit lesson.back s.trail.depth is.ascending is.once l.asserting.present l.asserting.below))
 
 pub learnt_one : (old s : Search) (l : Lesson) (number : ℕ) → IsSearching old → IsLesson old l
-    → IsLitSet l.clause → s.steps.items ≡ old.steps.items ++ l.step ∷ []
-    → number ≡ length s.steps.items → s.learnt.items ≡ old.learnt.items ++ number ∷ []
+    → IsLitSet l.clause → s.steps ≡ old.steps ++ l.step ∷ []
+    → number ≡ length s.steps → s.learnt.items ≡ old.learnt.items ++ number ∷ []
     → s.store.clauses ≡ old.store.clauses ++ record {
       lits = l.clause;
       tag = l.step.tag;
@@ -507,7 +507,7 @@ learnt_one old s l number kept lesson set pushed last listed added bound packets
     names = number ∷ [];
     learnt = listed;
     named = (step_is, tt);
-    steps = pushed_steps old.steps.items s.steps.items l.step number pushed last;
+    steps = pushed_steps old.steps s.steps l.step number pushed last;
     fresh = (
       contains_none old.store.clauses l.step
           (subst (IsNew old.store.clauses) (sym lesson.of) lesson.fresh),
@@ -518,12 +518,12 @@ learnt_one old s l number kept lesson set pushed last listed added bound packets
   };
 }
   where
-    step_is : IsStep s.steps.items number (known_of l.step)
+    step_is : IsStep s.steps number (known_of l.step)
     step_is = subst (λ (steps : List Step). IsStep steps number (known_of l.step)) (sym pushed)
         (subst (λ knowns. item_at knowns number ≡ Some (known_of l.step))
-        (sym (map_push known_of old.steps.items l.step))
-        (item_at-last (map known_of old.steps.items) (known_of l.step) number
-        (omega (arith, last, ap length pushed, length_push old.steps.items l.step, length-map old.steps.items known_of))))
+        (sym (map_push known_of old.steps l.step))
+        (item_at-last (map known_of old.steps) (known_of l.step) number
+        (omega (arith, last, ap length pushed, length_push old.steps l.step, length-map old.steps known_of))))
 
     proper : IsTautology l.step.clause → ⊥
     proper = subst (λ lits. IsTautology lits → ⊥) (sym lesson.of) lesson.proper
@@ -539,8 +539,8 @@ learnt_one old s l number kept lesson set pushed last listed added bound packets
 -- the lesson is learnt, call after call
 pub lesson_learnt : (old p b h : Search) (l : Lesson) (number : ℕ) → IsSearching old
     → IsLesson old l → IsLitSet l.clause
-    → p ≡ record old { steps = p.steps } → p.steps.items ≡ old.steps.items ++ l.step ∷ []
-    → number ≡ length p.steps.items
+    → p ≡ record old { steps = p.steps } → p.steps ≡ old.steps ++ l.step ∷ []
+    → number ≡ length p.steps
     → b ≡ record p {
       trail = b.trail;
       cursor = b.cursor;
@@ -556,9 +556,9 @@ pub lesson_learnt : (old p b h : Search) (l : Lesson) (number : ℕ) → IsSearc
     → LearnsOne (solver_of old) (solver_of h)
 lesson_learnt old p b h l number kept lesson set stepped pushed last back held added listed =
     learnt_one old h l number kept lesson set
-    (ap (λ (x : Search). x.steps.items) held ∙ ap (λ (x : Search). x.steps.items) back ∙ pushed)
-    (last ∙ ap (λ (x : Search). length x.steps.items) (sym back)
-    ∙ ap (λ (x : Search). length x.steps.items) (sym held))
+    (ap (λ (x : Search). x.steps) held ∙ ap (λ (x : Search). x.steps) back ∙ pushed)
+    (last ∙ ap (λ (x : Search). length x.steps) (sym back)
+    ∙ ap (λ (x : Search). length x.steps) (sym held))
     (listed ∙ ap (λ (x : Search). x.learnt.items ++ number ∷ [])
     (back ∙ ap (λ (x : Search). record x {
       trail = b.trail;

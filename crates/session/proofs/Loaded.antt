@@ -130,7 +130,7 @@ pub search_restored : (s : Search) (store : StoreView) → IsSearching s
     → IsWatched store.clauses store.fresh s.trail.entries s.trail.depth s.trail.looked
     → IsSearching (record s { store = store })
 search_restored s store kept clauses vars watched = record {
-  stock = subst (λ cs. IsStocked cs (packets_of s) s.steps.items s.bound) (sym clauses) kept.stock;
+  stock = subst (λ cs. IsStocked cs (packets_of s) s.steps s.bound) (sym clauses) kept.stock;
   room = record {
     over = subst (λ cs. AreAllWithin s.greatest cs) (sym clauses) kept.room.over;
     reserved = kept.room.reserved;
@@ -139,11 +139,11 @@ search_restored s store kept clauses vars watched = record {
     in_units = kept.room.in_units;
     in_tags = kept.room.in_tags;
   };
-  counted = subst (λ cs. IsCounted cs s.greatest s.inputs s.steps.items s.learnt.items) (sym clauses) kept.counted;
+  counted = subst (λ cs. IsCounted cs s.greatest s.inputs s.steps s.learnt.items) (sym clauses) kept.counted;
   on = subst (λ cs. IsOnTrail (lits_of_each cs) s.trail.entries s.trail.depth)
       (sym clauses) kept.on;
   named = subst (λ cs. IsNamed (named_by (inputs_of cs)
-      (packets_of s) s.steps.items) s.trail.entries s.units.items s.tags.items s.named)
+      (packets_of s) s.steps) s.trail.entries s.units.items s.tags.items s.named)
       (sym clauses) kept.named;
   trail = kept.trail;
   watched = watched;
@@ -158,7 +158,7 @@ restored_solver s store clauses = ap (λ cs. record {
   inputs = inputs_of cs;
   bound = s.bound;
   held = held_of cs;
-  steps = s.steps.items;
+  steps = s.steps;
   learnt = s.learnt.items;
   packets = packets_of s;
 }) clauses
@@ -179,7 +179,7 @@ search_raised s bound kept le = record {
     ok = kept.stock.ok;
     steps_entailed = kept.stock.steps_entailed;
     steps_within = kept.stock.steps_within;
-    steps_bounded = All-under (λ step. step.tag ≤ s.bound) (λ step. step.tag ≤ bound) s.steps.items
+    steps_bounded = All-under (λ step. step.tag ≤ s.bound) (λ step. step.tag ≤ bound) s.steps
         (λ step low. omega (arith, low, le)) kept.stock.steps_bounded;
   };
   room = kept.room;
@@ -201,7 +201,7 @@ loaded_solver old s mid clauses job same only more job_is =
       inputs = inputs_of mid.store.clauses;
       bound = job;
       held = held_of mid.store.clauses;
-      steps = x.steps.items;
+      steps = x.steps;
       learnt = x.learnt.items;
       packets = packets_of x;
     }) only.parts
@@ -209,7 +209,7 @@ loaded_solver old s mid clauses job same only more job_is =
       inputs = inputs;
       bound = job;
       held = held_of mid.store.clauses;
-      steps = s.steps.items;
+      steps = s.steps;
       learnt = s.learnt.items;
       packets = packets_of s;
     }) more.inputs
@@ -217,7 +217,7 @@ loaded_solver old s mid clauses job same only more job_is =
       inputs = inputs_of s.store.clauses ++ tagged job clauses;
       bound = job;
       held = held;
-      steps = s.steps.items;
+      steps = s.steps;
       learnt = s.learnt.items;
       packets = packets_of s;
     }) more.held
@@ -225,7 +225,7 @@ loaded_solver old s mid clauses job same only more job_is =
       inputs = inputs_of s.store.clauses ++ tagged n clauses;
       bound = n;
       held = held_of s.store.clauses ++ tagged n clauses;
-      steps = s.steps.items;
+      steps = s.steps;
       learnt = s.learnt.items;
       packets = packets_of s;
     }) job_is

@@ -30,7 +30,7 @@ pub offers_on : (entries more : List Entry) (ranking : Ranking) → OffersFree e
     → OffersFree (entries ++ more) ranking
 offers_on entries more (Scores scores) offers = λ var low high free.
     offers var low high (free_before entries more var free)
-offers_on entries more (Queue queue) offers = All-weaker (IsAssigned entries)
+offers_on entries more (Queue queue stamps) offers = All-weaker (IsAssigned entries)
     (IsAssigned (entries ++ more)) (stays_assigned entries more) queue.skipped offers
 
 pub order_more : (greatest : ℕ) (old new : TrailView) (more : List Entry) (order : Order)
@@ -167,7 +167,7 @@ take_last entries n lit some within is = (
 
 -- A free variable that comes from a queue was entered.
 pub nearest_entered : (entries : List Entry) (ranking : Ranking) (queue new : QueueView)
-    (found : Option ℕ) → ranking ≡ Queue queue → IsQueue new → new.order ≡ queue.order
+    (found : Option ℕ) → entered_in ranking ≡ queue.vars → IsQueue new → new.order ≡ queue.order
     → new.vars ≡ queue.vars → IfSome found (λ var. IsNearestFree entries queue.order var)
     → IfSome found (λ var. (1 ≤ var) × (var ≤ entered_in ranking) × IsFree entries var)
 nearest_entered entries ranking queue new None is kept order vars some = tt
@@ -177,7 +177,7 @@ nearest_entered entries ranking queue new (Some var) is kept order vars some =
     (Contains-here var some.back)) in
     let known = kept.variables.known var has in (
       known.0,
-      subst (λ (r : Ranking). var ≤ entered_in r) (sym is) (omega (arith, known.1, vars)),
+      omega (arith, known.1, vars, is),
       some.free,
     )
 

@@ -38,14 +38,14 @@ refuted_by inputs part clause negates follows values all =
     (follows values all)
 
 pub refutation_from : (s : Search) (cube part : List ℕ) (number : ℕ) (step : Step) → IsSearching s
-    → IsStep s.steps.items number (known_of step) → All (Contains cube) part
+    → IsStep s.steps number (known_of step) → All (Contains cube) part
     → ((lit : ℕ) → Contains step.clause lit ↔ Contains part (opposite lit))
-    → IsRefutation (inputs_of s.store.clauses) s.steps.items cube part number
+    → IsRefutation (inputs_of s.store.clauses) s.steps cube part number
 refutation_from s cube part number step kept is within negates = record {
   right = record {
     within = within;
     refuted = refuted_by (inputs_of s.store.clauses) part step.clause negates
-        (known_follows s.store.clauses (packets_of s) s.steps.items s.bound kept.stock (Own number)
+        (known_follows s.store.clauses (packets_of s) s.steps s.bound kept.stock (Own number)
         (known_of step) is);
   };
   one = known_of step;

@@ -90,7 +90,7 @@ pub search_reserved : (s : Search) (store : StoreView) (scratch : ℕ) (units : 
       trail = trail;
     })
 search_reserved s store scratch units tags trail kept is clauses fresh entries depth looked more in_store in_scratch in_units in_tags units_front tags_front = record {
-  stock = subst (λ cs. IsStocked cs (packets_of s) s.steps.items s.bound) (sym clauses) kept.stock;
+  stock = subst (λ cs. IsStocked cs (packets_of s) s.steps s.bound) (sym clauses) kept.stock;
   room = record {
     over = subst (λ cs. AreAllWithin s.greatest cs) (sym clauses) kept.room.over;
     reserved = omega (arith, kept.room.reserved, more);
@@ -99,13 +99,13 @@ search_reserved s store scratch units tags trail kept is clauses fresh entries d
     in_units = in_units;
     in_tags = in_tags;
   };
-  counted = subst (λ cs. IsCounted cs s.greatest s.inputs s.steps.items s.learnt.items) (sym clauses) kept.counted;
+  counted = subst (λ cs. IsCounted cs s.greatest s.inputs s.steps s.learnt.items) (sym clauses) kept.counted;
   on = subst (λ cs. IsOnTrail (lits_of_each cs) trail.entries trail.depth) (sym clauses)
       (subst (λ (es : List Entry). IsOnTrail (lits_of_each s.store.clauses) es trail.depth)
       (sym entries) (subst (IsOnTrail (lits_of_each s.store.clauses) s.trail.entries)
       (sym depth) kept.on));
   named = subst (λ cs. IsNamed (named_by (inputs_of cs)
-      (packets_of s) s.steps.items) trail.entries units.items tags.items s.named) (sym clauses)
+      (packets_of s) s.steps) trail.entries units.items tags.items s.named) (sym clauses)
       (subst (λ (es : List Entry). IsNamed (table_of s) es units.items tags.items s.named) (sym entries) (record {
         within = kept.named.within;
         zero = kept.named.zero;
@@ -165,9 +165,9 @@ pub search_input : (s : Search) (clause : List ℕ) (store : StoreView)
     → store.vars ≡ s.store.vars
     → IsSearching (record s { store = store; greatest = most; inputs = number; bound = tag })
 search_input s clause store tag number greatest most kept zero set le last greatest_is most_is within added fresh_is vars_are = record {
-  stock = subst (λ cs. IsStocked cs (packets_of s) s.steps.items tag) (sym added)
+  stock = subst (λ cs. IsStocked cs (packets_of s) s.steps tag) (sym added)
       (stock_input s.store.clauses
-      (packets_of s) s.steps.items s.bound tag number clause kept.stock le
+      (packets_of s) s.steps s.bound tag number clause kept.stock le
       (omega (arith, last, kept.counted.inputs_are)) set.each set.ascending);
   room = record {
     over = subst (λ cs. AreAllWithin most cs) (sym added)
@@ -195,18 +195,18 @@ search_input s clause store tag number greatest most kept zero set le last great
         (clauses_of (inputs_of s.store.clauses)) clause);
     inputs_are = last ∙ ap (λ n. n + 1) kept.counted.inputs_are
         ∙ sym (ap length inputs ∙ length_push (inputs_of s.store.clauses) one);
-    learnt_held = learnt_beside s.store.clauses store.clauses s.steps.items s.learnt.items (one ∷ []) held kept.counted.learnt_held;
+    learnt_held = learnt_beside s.store.clauses store.clauses s.steps s.learnt.items (one ∷ []) held kept.counted.learnt_held;
   };
   on = subst (λ lits. IsOnTrail lits s.trail.entries s.trail.depth)
       (sym (ap lits_of_each added ∙ map_push (λ (c : ArenaClause). c.lits) s.store.clauses input))
       (more_on_trail (lits_of_each s.store.clauses) clause s.trail.entries s.trail.depth
       (λ level lt. absurd (omega (arith, lt, zero))) kept.on);
   named = subst (λ xs. IsNamed
-      (named_by xs (packets_of s) s.steps.items) s.trail.entries s.units.items s.tags.items s.named) (sym inputs)
+      (named_by xs (packets_of s) s.steps) s.trail.entries s.units.items s.tags.items s.named) (sym inputs)
       (named_stays (table_of s) (named_by (inputs_of s.store.clauses ++ one ∷ [])
-      (packets_of s) s.steps.items) s.trail.entries s.units.items s.tags.items s.named
+      (packets_of s) s.steps) s.trail.entries s.units.items s.tags.items s.named
       (λ name known is. named_with_input (inputs_of s.store.clauses) one
-      (packets_of s) s.steps.items name known is) kept.named);
+      (packets_of s) s.steps name known is) kept.named);
   trail = kept.trail;
   watched = watched_as added fresh_is refl refl refl
       (watched_added s.store.clauses s.store.fresh s.trail.entries s.trail.depth s.trail.looked input zero kept.watched);
@@ -251,11 +251,11 @@ none_known packets place number one none is = at (place == 0)
 
 -- a search without inputs
 pub new_search : (s : Search) → s.store.clauses ≡ [] → s.store.fresh ≡ []
-    → s.trail.entries ≡ [] → s.trail.depth ≡ 0 → s.trail.looked ≡ 0 → s.trail.vars ≡ 0 → s.packets.items ≡ [] → s.steps.items ≡ [] → s.learnt.items ≡ []
+    → s.trail.entries ≡ [] → s.trail.depth ≡ 0 → s.trail.looked ≡ 0 → s.trail.vars ≡ 0 → s.packets.items ≡ [] → s.steps ≡ [] → s.learnt.items ≡ []
     → s.named ≡ 0 → s.cursors.items ≡ [] → s.greatest ≡ 0 → s.inputs ≡ 0 → IsOrder s.order
     → s.order.vars ≡ 0 → OffersFree s.trail.entries s.order.ranking → IsSearching s
 new_search s clauses fresh entries depth looked vars packets steps learnt named cursors greatest inputs order ordered offers = record {
-  stock = subst (λ cs. IsStocked cs (packets_of s) s.steps.items s.bound) (sym clauses) (subst (λ xs. IsStocked [] (packets_of s) xs s.bound) (sym steps) (record {
+  stock = subst (λ cs. IsStocked cs (packets_of s) s.steps s.bound) (sym clauses) (subst (λ xs. IsStocked [] (packets_of s) xs s.bound) (sym steps) (record {
     lits = λ i d lt. absurd (omega (arith, lt));
     named = λ i d lt. absurd (omega (arith, lt));
     entailed = λ i d lt. absurd (omega (arith, lt));
@@ -280,7 +280,7 @@ new_search s clauses fresh entries depth looked vars packets steps learnt named 
   counted = record {
     greatest_is = greatest ∙ sym (ap (λ cs. greatest_of_all (clauses_of (inputs_of cs))) clauses);
     inputs_are = inputs ∙ sym (ap (λ cs. length (inputs_of cs)) clauses);
-    learnt_held = subst (All (IsHeldStep s.steps.items (held_of s.store.clauses))) (sym learnt)
+    learnt_held = subst (All (IsHeldStep s.steps (held_of s.store.clauses))) (sym learnt)
         (λ i d lt. absurd (omega (arith, lt)));
   };
   on = record {

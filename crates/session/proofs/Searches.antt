@@ -53,13 +53,13 @@ counted_beside clauses clauses' greatest inputs steps learnt more same held coun
   learnt_held = learnt_beside clauses clauses' steps learnt more held counted.learnt_held;
 }
 
-with_steps : (search : Search) (steps : Vec Step Global)
-    → IsStocked search.store.clauses (packets_of search) steps.items search.bound
+with_steps : (search : Search) (steps : List Step)
+    → IsStocked search.store.clauses (packets_of search) steps search.bound
     → ((name : Ref) (known : Known) → table_of search name ≡ Some known
-    → named_by (inputs_of search.store.clauses) (packets_of search) steps.items name
+    → named_by (inputs_of search.store.clauses) (packets_of search) steps name
     ≡ Some known)
-    → ((number : ℕ) (one : Known) → IsStep search.steps.items number one
-    → IsStep steps.items number one)
+    → ((number : ℕ) (one : Known) → IsStep search.steps number one
+    → IsStep steps number one)
     → IsSearching search → IsSearching (record search { steps = steps })
 with_steps search steps stock grows numbered s = record {
   stock = stock;
@@ -67,13 +67,13 @@ with_steps search steps stock grows numbered s = record {
   counted = record {
     greatest_is = s.counted.greatest_is;
     inputs_are = s.counted.inputs_are;
-    learnt_held = All-under (IsHeldStep search.steps.items (held_of search.store.clauses))
-        (IsHeldStep steps.items (held_of search.store.clauses)) search.learnt.items
+    learnt_held = All-under (IsHeldStep search.steps (held_of search.store.clauses))
+        (IsHeldStep steps (held_of search.store.clauses)) search.learnt.items
         (λ number (one, is, held). (one, numbered number one is, held)) s.counted.learnt_held;
   };
   on = s.on;
   named = named_stays (table_of search) (named_by (inputs_of search.store.clauses)
-      (packets_of search) steps.items) search.trail.entries search.units.items search.tags.items search.named grows s.named;
+      (packets_of search) steps) search.trail.entries search.units.items search.tags.items search.named grows s.named;
   trail = s.trail;
   watched = s.watched;
   levels = s.levels;
@@ -81,7 +81,7 @@ with_steps search steps stock grows numbered s = record {
   all_named = s.all_named;
 }
 
-pub same_steps : (search : Search) (steps : Vec Step Global) → steps.items ≡ search.steps.items
+pub same_steps : (search : Search) (steps : List Step) → steps ≡ search.steps
     → IsSearching search → IsSearching (record search { steps = steps })
 same_steps search steps same s =
     with_steps search steps (subst (λ xs. IsStocked search.store.clauses
@@ -90,31 +90,31 @@ same_steps search steps same s =
     (packets_of search) xs name) same ∙ is)
     (λ number one is. subst (λ (xs : List Step). IsStep xs number one) (sym same) is) s
 
-pub more_steps : (search : Search) (steps : Vec Step Global) (step : Step)
-    → steps.items ≡ search.steps.items ++ step ∷ [] → IsOkStep (table_of search) step
+pub more_steps : (search : Search) (steps : List Step) (step : Step)
+    → steps ≡ search.steps ++ step ∷ [] → IsOkStep (table_of search) step
     → IsSearching search → IsSearching (record search { steps = steps })
 more_steps search steps step pushed ok s =
     with_steps search steps (subst (λ xs. IsStocked search.store.clauses
     (packets_of search) xs search.bound) (sym pushed)
     (stock_step search.store.clauses
-    (packets_of search) search.steps.items search.bound step s.stock ok))
+    (packets_of search) search.steps search.bound step s.stock ok))
     (λ name known is. ap (λ xs. named_by (inputs_of search.store.clauses)
     (packets_of search) xs name) pushed ∙ named_with_step (inputs_of search.store.clauses)
-    (packets_of search) search.steps.items step name known is)
+    (packets_of search) search.steps step name known is)
     (λ number one is. subst (λ (xs : List Step). IsStep xs number one) (sym pushed)
     (subst (λ xs. item_at xs number ≡ Some one)
-    (sym (map_push known_of search.steps.items step))
-    (item_at-append (map known_of search.steps.items) (known_of step ∷ []) number one is))) s
+    (sym (map_push known_of search.steps step))
+    (item_at-append (map known_of search.steps) (known_of step ∷ []) number one is))) s
 
-pub last_named : (search : Search) (steps : Vec Step Global) (step : Step) (number : ℕ)
-    → steps.items ≡ search.steps.items ++ step ∷ [] → number ≡ length steps.items
-    → named_by (inputs_of search.store.clauses) (packets_of search) steps.items (Own number)
+pub last_named : (search : Search) (steps : List Step) (step : Step) (number : ℕ)
+    → steps ≡ search.steps ++ step ∷ [] → number ≡ length steps
+    → named_by (inputs_of search.store.clauses) (packets_of search) steps (Own number)
     ≡ Some (known_of step)
 last_named search steps step number pushed is =
     ap (λ xs. named_by (inputs_of search.store.clauses) (packets_of search) xs (Own number)) pushed
     ∙ named_last (inputs_of search.store.clauses)
-    (packets_of search) search.steps.items step number
-    (omega (arith, is, ap length pushed, length_push search.steps.items step))
+    (packets_of search) search.steps step number
+    (omega (arith, is, ap length pushed, length_push search.steps step))
 
 -- each clause is known under its name
 pub name_of_clause : (search : Search) (id : ℕ) → IsSearching search

@@ -52,7 +52,7 @@ pub search_propagated : (s : Search) (store : StoreView) (trail : TrailView) →
     → IsSearching (record s { store = store; trail = trail })
 search_propagated s store trail kept same store_vars grown founded depth_is vars_are is paired ready pending still = record {
   stock = stock_same s.store.clauses store.clauses
-      (packets_of s) s.steps.items s.bound same kept.stock;
+      (packets_of s) s.steps s.bound same kept.stock;
   room = record {
     over = within_same s.greatest s.store.clauses store.clauses same kept.room.over;
     reserved = omega (arith, kept.room.reserved, vars_are);
@@ -64,12 +64,12 @@ search_propagated s store trail kept same store_vars grown founded depth_is vars
   counted = record {
     greatest_is = kept.counted.greatest_is ∙ ap (λ xs. greatest_of_all (clauses_of xs)) inputs;
     inputs_are = kept.counted.inputs_are ∙ ap length inputs;
-    learnt_held = subst (λ held. All (IsHeldStep s.steps.items held) s.learnt.items)
+    learnt_held = subst (λ held. All (IsHeldStep s.steps held) s.learnt.items)
         (held_same s.store.clauses store.clauses pairs) kept.counted.learnt_held;
   };
   on = subst (λ depth. IsOnTrail (lits_of_each store.clauses) trail.entries depth) (sym depth_is)
       (propagated_on_trail s.store.clauses store.clauses s.trail.entries trail.entries s.trail.depth same grown founded kept.on);
-  named = subst (λ xs. IsNamed (named_by xs (packets_of s) s.steps.items) trail.entries s.units.items s.tags.items s.named) inputs (record {
+  named = subst (λ xs. IsNamed (named_by xs (packets_of s) s.steps) trail.entries s.units.items s.tags.items s.named) inputs (record {
     within = omega (arith, kept.named.within, grown.longer);
     zero = λ place lt. ap (λ (e : Entry). e.level) (old_at place lt) ∙ kept.named.zero place lt;
     known = λ place lt. subst (λ (e : Entry). IsNameOf (table_of s)

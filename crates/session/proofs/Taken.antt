@@ -269,9 +269,9 @@ pub search_took : (s new : Search) (place : ℕ) (packet : List Step) (one : Kno
     } ∷ [] → new.store.fresh ≡ s.store.fresh ++ length s.store.clauses ∷ []
     → new.store.vars ≡ s.store.vars → IsSearching new
 search_took s new place packet one kept bottom parts more free takable ascends added fresh vars = subst (λ (x : Search). IsSearching x) (sym parts) (record {
-  stock = subst (λ cs. IsStocked cs (packets_of new) s.steps.items s.bound) (sym added)
+  stock = subst (λ cs. IsStocked cs (packets_of new) s.steps s.bound) (sym added)
       (stock_shared s.store.clauses (packets_of s)
-      (packets_of new) s.steps.items s.bound place packet one kept.stock more free takable.last takable.bounded takable.follows takable.within ascends);
+      (packets_of new) s.steps s.bound place packet one kept.stock more free takable.last takable.bounded takable.follows takable.within ascends);
   room = record {
     over = subst (λ cs. AreAllWithin s.greatest cs) (sym added)
         (All-push (λ (clause : ArenaClause). AreWithin s.greatest clause.lits) s.store.clauses shared kept.room.over
@@ -284,7 +284,7 @@ search_took s new place packet one kept bottom parts more free takable ascends a
     in_units = kept.room.in_units;
     in_tags = kept.room.in_tags;
   };
-  counted = counted_beside s.store.clauses new.store.clauses s.greatest s.inputs s.steps.items s.learnt.items
+  counted = counted_beside s.store.clauses new.store.clauses s.greatest s.inputs s.steps s.learnt.items
       (known_clause shared ∷ []) inputs held kept.counted;
   on = subst (λ lits. IsOnTrail lits s.trail.entries s.trail.depth)
       (sym (ap lits_of_each added
@@ -292,12 +292,12 @@ search_took s new place packet one kept bottom parts more free takable ascends a
       (more_on_trail (lits_of_each s.store.clauses) one.clause s.trail.entries s.trail.depth
       (λ level lt. absurd (omega (arith, lt, bottom))) kept.on);
   named = subst (λ inputs. IsNamed (named_by inputs
-      (packets_of new) s.steps.items) s.trail.entries s.units.items s.tags.items s.named)
+      (packets_of new) s.steps) s.trail.entries s.units.items s.tags.items s.named)
       (sym inputs)
       (named_stays (table_of s) (named_by (inputs_of s.store.clauses)
-      (packets_of new) s.steps.items) s.trail.entries s.units.items s.tags.items s.named
+      (packets_of new) s.steps) s.trail.entries s.units.items s.tags.items s.named
       (named_with_place (inputs_of s.store.clauses) (packets_of s)
-      (packets_of new) s.steps.items place packet more free) kept.named);
+      (packets_of new) s.steps place packet more free) kept.named);
   trail = kept.trail;
   watched = watched_as added fresh refl refl refl
       (watched_added s.store.clauses s.store.fresh s.trail.entries s.trail.depth s.trail.looked shared bottom kept.watched);
@@ -344,7 +344,7 @@ took s new place packet one parts more last ascends added = record {
       (record { lits = one.clause; tag = one.tag; origin = Shared place (length packet) })
       ∙ ap (λ lits. held_of s.store.clauses ++ record { clause = lits; tag = one.tag } ∷ [])
       (in_order-itself one.clause ascends.ascending);
-  steps = ap (λ (x : Search). x.steps.items) parts;
+  steps = ap (λ (x : Search). x.steps) parts;
   learnt = ap (λ (x : Search). x.learnt.items) parts;
   packets = more;
 }
@@ -430,12 +430,12 @@ pub search_unplaced : (s new : Search) → IsSearching s
     → new ≡ record s { store = new.store; packets = new.packets } → new.store ≡ s.store
     → packets_of new ≡ packets_of s → IsSearching new
 search_unplaced s new kept parts store packets = subst (λ (x : Search). IsSearching x) (sym (parts ∙ ap (λ (x : StoreView). record s { store = x; packets = new.packets }) store)) (record {
-  stock = subst (λ ps. IsStocked s.store.clauses ps s.steps.items s.bound) (sym packets) kept.stock;
+  stock = subst (λ ps. IsStocked s.store.clauses ps s.steps s.bound) (sym packets) kept.stock;
   room = kept.room;
   counted = kept.counted;
   on = kept.on;
   named = subst (λ ps. IsNamed
-      (named_by (inputs_of s.store.clauses) ps s.steps.items) s.trail.entries s.units.items s.tags.items s.named) (sym packets) kept.named;
+      (named_by (inputs_of s.store.clauses) ps s.steps) s.trail.entries s.units.items s.tags.items s.named) (sym packets) kept.named;
   trail = kept.trail;
   watched = kept.watched;
   levels = kept.levels;
@@ -451,9 +451,9 @@ pub search_knows : (s new : Search) (place : ℕ) (packet : List Step) → IsSea
 search_knows s new place packet kept parts more free is_held = subst (λ (x : Search). IsSearching x) (sym parts) (record {
   stock = record {
     lits = kept.stock.lits;
-    named = All-under (λ clause. named_by inputs (packets_of s) s.steps.items clause.origin
+    named = All-under (λ clause. named_by inputs (packets_of s) s.steps clause.origin
         ≡ Some (known_clause clause)) (λ clause. named_by inputs
-        (packets_of new) s.steps.items clause.origin ≡ Some (known_clause clause)) s.store.clauses
+        (packets_of new) s.steps clause.origin ≡ Some (known_clause clause)) s.store.clauses
         (λ clause is. grows clause.origin (known_clause clause) is) kept.stock.named;
     entailed = kept.stock.entailed;
     bounded = kept.stock.bounded;
@@ -461,7 +461,7 @@ search_knows s new place packet kept parts more free is_held = subst (λ (x : Se
     packets_held = λ other number k is. held other number k is (cases_eq other place);
     ok = ok_over_more inputs (shared_by (packets_of s)) (shared_by (packets_of new))
         (known_with_place inputs (packets_of s)
-        (packets_of new) place packet more free) [] s.steps.items kept.stock.ok;
+        (packets_of new) place packet more free) [] s.steps kept.stock.ok;
     steps_entailed = kept.stock.steps_entailed;
     steps_within = kept.stock.steps_within;
     steps_bounded = kept.stock.steps_bounded;
@@ -470,7 +470,7 @@ search_knows s new place packet kept parts more free is_held = subst (λ (x : Se
   counted = kept.counted;
   on = kept.on;
   named = named_stays (table_of s) (named_by inputs
-      (packets_of new) s.steps.items) s.trail.entries s.units.items s.tags.items s.named grows kept.named;
+      (packets_of new) s.steps) s.trail.entries s.units.items s.tags.items s.named grows kept.named;
   trail = kept.trail;
   watched = kept.watched;
   levels = kept.levels;
@@ -481,10 +481,10 @@ search_knows s new place packet kept parts more free is_held = subst (λ (x : Se
     inputs : List Known
     inputs = inputs_of s.store.clauses
 
-    grows : (name : Ref) (one : Known) → named_by inputs (packets_of s) s.steps.items name
-        ≡ Some one → named_by inputs (packets_of new) s.steps.items name ≡ Some one
+    grows : (name : Ref) (one : Known) → named_by inputs (packets_of s) s.steps name
+        ≡ Some one → named_by inputs (packets_of new) s.steps name ≡ Some one
     grows = named_with_place inputs (packets_of s)
-        (packets_of new) s.steps.items place packet more free
+        (packets_of new) s.steps place packet more free
 
     last_held : (number : ℕ) (k : Known) (b : Bool) → (number == length packet) ≡ b
         → cond b (item_at (map known_of packet) number) None ≡ Some k

@@ -10,12 +10,12 @@ use Rattle.session.specs.declared.order.Order.{Order}
 -- how many variables were entered: 1 to that number
 abbrev pub entered_in : Ranking → ℕ
 entered_in (Scores scores) = scores.vars
-entered_in (Queue queue) = queue.vars
+entered_in (Queue queue stamps) = queue.vars
 
 -- A search for a free variable finds each: it waits in the heap, or the queue doesn't skip it.
 abbrev pub OffersFree : List Entry → Ranking → Type 0
 OffersFree entries (Scores scores) = FreeWait entries scores
-OffersFree entries (Queue queue) = AreAssigned entries queue.skipped
+OffersFree entries (Queue queue stamps) = AreAssigned entries queue.skipped
 
 -- So many variables are ranked, and have phases.
 pub record IsOrder (order : Order) : Type 0 where

@@ -24,14 +24,14 @@ packets_of search = map (option_map arc_value) search.packets.items
 
 -- what references name to the search
 abbrev pub table_of : Search → Ref → Option Known
-table_of search = named_by (inputs_of search.store.clauses) (packets_of search) search.steps.items
+table_of search = named_by (inputs_of search.store.clauses) (packets_of search) search.steps
 
 abbrev pub solver_of : Search → Solver
 solver_of search = record {
   inputs = inputs_of search.store.clauses;
   bound = search.bound;
   held = held_of search.store.clauses;
-  steps = search.steps.items;
+  steps = search.steps;
   learnt = search.learnt.items;
   packets = packets_of search;
 }
@@ -60,10 +60,10 @@ pub record IsCounted (clauses : List ArenaClause) (greatest inputs : ℕ) (steps
 
 -- What a search keeps whatever cube it is asked about.
 pub record IsSearching (search : Search) : Type 0 where
-  pub stock : IsStocked search.store.clauses (packets_of search) search.steps.items search.bound
+  pub stock : IsStocked search.store.clauses (packets_of search) search.steps search.bound
   pub room : IsRoomy search.greatest search.trail.vars search.store search.scratch
       search.units.items search.tags.items
-  pub counted : IsCounted search.store.clauses search.greatest search.inputs search.steps.items
+  pub counted : IsCounted search.store.clauses search.greatest search.inputs search.steps
       search.learnt.items
   pub trail : IsTrail search.trail
   pub watched : IsWatched search.store.clauses search.store.fresh search.trail.entries

@@ -54,10 +54,11 @@ pub(crate) fn learn_and_backjump(search: &mut Search, conflict: usize) -> Result
         met,
         levels,
     } = analyze_conflict(search, conflict)?;
-    search.order.bump_all(met.items());
+    let mut met = met.into_items();
+    search.order.bump_all(&mut met);
     search.restarts.count_clause(levels);
     let tag = step.tag;
-    let number = push_step(search, step)?;
+    let number = push_step(search, &step)?;
     // Back first: where the clause finds no room, the trail stands as it should all the same.
     backjump(search, back);
     let Some(lit) = unassigned(&search.trail, &clause) else {
@@ -117,7 +118,7 @@ fn hold(
     lit: Lit,
 ) -> Result<(), AllocError>
     requires kept { IsSearching search.old }
-    requires step { IsStep search.old.steps.items number
+    requires step { IsStep search.old.steps number
         (record { clause = clause.now; tag = tag }) }
     requires set { IsLitSet clause.now }
     requires within { AreWithin search.old.greatest clause.now }

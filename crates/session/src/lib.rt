@@ -27,6 +27,7 @@ mod search;
 mod session;
 mod sharing;
 mod solving;
+mod stamps;
 #[cfg(test)]
 mod tests;
 mod unit_steps;

@@ -24,7 +24,7 @@ pub(crate) fn name_units(search: &mut Search) -> Result<(), AllocError>
       named = search.new.named;
       steps = search.new.steps;
     } }
-    ensures steps { HasUnitsMore search.old.steps.items search.new.steps.items }
+    ensures steps { HasUnitsMore search.old.steps search.new.steps }
 {
     while search.named < search.trail.lits().len() {
         name_next(search)?;
@@ -45,7 +45,7 @@ fn name_next(search: &mut Search) -> Result<(), AllocError>
       named = search.new.named;
       steps = search.new.steps;
     } }
-    ensures steps { HasUnitsMore search.old.steps.items search.new.steps.items }
+    ensures steps { HasUnitsMore search.old.steps search.new.steps }
 {
     let lit = search.trail.lits()[search.named];
     let Some(id) = search.trail.reason(lit.var()) else {
@@ -71,7 +71,7 @@ fn unit_name(search: &mut Search, lit: Lit, id: usize) -> Result<(Ref, u32), All
     ensures name { IfOk result (λ answer. IsNameOf (table_of search.new) answer.0
         (lit ∷ []) answer.1) }
     ensures parts { search.new ≡ record search.old { steps = search.new.steps } }
-    ensures steps { HasUnitsMore search.old.steps.items search.new.steps.items }
+    ensures steps { HasUnitsMore search.old.steps search.new.steps }
 {
     let arena = search.store.arena();
     if arena.lits(id).len() == 1 {
@@ -86,6 +86,6 @@ fn unit_name(search: &mut Search, lit: Lit, id: usize) -> Result<(Ref, u32), All
         Some(lit),
     )?;
     let tag = step.tag;
-    let number = push_step(search, step)?;
+    let number = push_step(search, &step)?;
     Ok((Ref::Own(number), tag))
 }

@@ -109,16 +109,17 @@ impl Order {
         }
     }
 
-    /// Ranks the variables higher that a conflict met. Those that weren't entered are passed over.
-    /// Takes no memory.
-    pub(crate) fn bump_all(&mut self, vars: &[u32])
+    /// Ranks the variables higher that a conflict met, and leaves them sorted as they were bumped.
+    /// Those that weren't entered are passed over. Takes no memory.
+    pub(crate) fn bump_all(&mut self, vars: &mut [u32])
         requires is { IsOrder self.old }
         ensures is { IsOrder self.new }
         ensures offers { (entries : List Entry) → OffersFree entries self.old.ranking
             → OffersFree entries self.new.ranking }
         ensures vars { self.new.vars ≡ self.old.vars }
     {
-        for var in vars {
+        self.ranking.sort(vars);
+        for var in vars.iter() {
             self.bump(*var);
         }
         self.ranking.decay();

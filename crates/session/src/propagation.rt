@@ -53,7 +53,7 @@ fn name_zero(search: &mut Search) -> Result<(), AllocError>
       named = search.new.named;
       steps = search.new.steps;
     } }
-    ensures steps { HasUnitsMore search.old.steps.items search.new.steps.items }
+    ensures steps { HasUnitsMore search.old.steps search.new.steps }
     ensures all_named { OnOk result (AreAllNamed search.new) }
 {
     if search.trail.depth() != 0 {

@@ -7,6 +7,7 @@ ghost use Rattle.trail_core.specs.Trail.{Entry, IsFree};
 ghost use Rattle.pick_core.specs.Assigned.{AreAllAssigned};
 ghost use Rattle.session.specs.Orders.{OffersFree, entered_in};
 
+use crate::stamps::Stamps;
 use pick_core::{Queue, Scores};
 use std::alloc::{AllocError, Global};
 use trail_core::Trail;
@@ -16,8 +17,9 @@ use trail_core::Trail;
 pub(crate) enum Ranking {
     /// Scores that decay: of free variables the one with the greatest score comes first.
     Scores(Scores),
-    /// A queue: of free variables the one that was bumped last comes first.
-    Queue(Queue),
+    /// A queue: of free variables the one that was bumped last comes first. Beside it the stamps of
+    /// its variables.
+    Queue(Queue, Stamps),
 }
 
 impl Ranking {
@@ -29,7 +31,7 @@ impl Ranking {
         if by_scores {
             return Ranking::Scores(Scores::new(alloc));
         }
-        Ranking::Queue(Queue::new(alloc))
+        Ranking::Queue(Queue::new(alloc), Stamps::new(alloc))
     }
 
     /// Enters the variables up to `vars` that aren't entered yet, one after another in ascending
@@ -42,7 +44,19 @@ impl Ranking {
     {
         match self {
             Ranking::Scores(scores) => scores.reserve(vars, at_end),
-            Ranking::Queue(queue) => queue.reserve(vars, at_end),
+            Ranking::Queue(queue, stamps) => {
+                stamps.reserve(vars, at_end)?;
+                queue.reserve(vars, at_end)
+            }
+        }
+    }
+
+    /// Sorts variables so that those that are bumped one after another keep the order in which they
+    /// stand in the queue. For scores any order will do. Takes no memory.
+    pub(crate) fn sort(&self, vars: &mut [u32]) {
+        match self {
+            Ranking::Scores(_) => {}
+            Ranking::Queue(_, stamps) => stamps.sort(vars),
         }
     }
 
@@ -56,7 +70,10 @@ impl Ranking {
     {
         match self {
             Ranking::Scores(scores) => scores.bump(var),
-            Ranking::Queue(queue) => queue.bump(var),
+            Ranking::Queue(queue, stamps) => {
+                queue.bump(var);
+                stamps.bump(var);
+            }
         }
     }
 
@@ -68,7 +85,7 @@ impl Ranking {
     {
         match self {
             Ranking::Scores(scores) => scores.decay(),
-            Ranking::Queue(_) => {}
+            Ranking::Queue(_, _) => {}
         }
     }
 
@@ -86,7 +103,7 @@ impl Ranking {
                     scores.put_back(var);
                 }
             }
-            Ranking::Queue(queue) => queue.rewind(),
+            Ranking::Queue(queue, _) => queue.rewind(),
         }
     }
 
@@ -101,7 +118,7 @@ impl Ranking {
     {
         match self {
             Ranking::Scores(scores) => scores.next_free(trail),
-            Ranking::Queue(queue) => queue.next_free(trail),
+            Ranking::Queue(queue, _) => queue.next_free(trail),
         }
     }
 }

@@ -27,12 +27,12 @@ pub(crate) fn refute_literal(search: &mut Search, lit: Lit) -> Result<(Cube, u64
     requires refuted { IsFalseLit (lits_of search.old.trail.entries) lit }
     ensures kept { IsSearching search.new }
     ensures parts { search.new ≡ record search.old { steps = search.new.steps } }
-    ensures steps { IsFront search.old.steps.items search.new.steps.items }
+    ensures steps { IsFront search.old.steps search.new.steps }
     ensures last { IfOk result
-        (λ answer. HasStepsMore search.old.steps.items search.new.steps.items (answer.1 ∷ [])) }
+        (λ answer. HasStepsMore search.old.steps search.new.steps (answer.1 ∷ [])) }
     ensures answer { IfOk result (λ answer. (cube : List ℕ)
         → IsForCube cube search.old.trail.entries → Contains cube lit
-        → IsRefutation (inputs_of search.old.store.clauses) search.new.steps.items cube
+        → IsRefutation (inputs_of search.old.store.clauses) search.new.steps cube
         answer.0 answer.1) }
 {
     let (part, step) = refute(
@@ -44,7 +44,7 @@ pub(crate) fn refute_literal(search: &mut Search, lit: Lit) -> Result<(Cube, u64
         &search.trail,
         lit,
     )?;
-    let number = push_step(search, step)?;
+    let number = push_step(search, &step)?;
     Ok((part, number))
 }
 
@@ -63,11 +63,11 @@ pub(crate) fn refute_all(search: &mut Search, conflict: usize) -> Result<(Cube, 
       named = search.new.named;
       steps = search.new.steps;
     } }
-    ensures steps { IsFront search.old.steps.items search.new.steps.items }
+    ensures steps { IsFront search.old.steps search.new.steps }
     ensures last { IfOk result
-        (λ answer. HasStepsMore search.old.steps.items search.new.steps.items (answer.1 ∷ [])) }
+        (λ answer. HasStepsMore search.old.steps search.new.steps (answer.1 ∷ [])) }
     ensures answer { IfOk result (λ answer. (cube : List ℕ)
-        → IsRefutation (inputs_of search.old.store.clauses) search.new.steps.items cube
+        → IsRefutation (inputs_of search.old.store.clauses) search.new.steps cube
         answer.0 answer.1) }
 {
     name_units(search)?;
@@ -79,6 +79,6 @@ pub(crate) fn refute_all(search: &mut Search, conflict: usize) -> Result<(Cube, 
         conflict,
         None,
     )?;
-    let number = push_step(search, step)?;
+    let number = push_step(search, &step)?;
     Ok((Cube::of_ascending(Vec::new(search.alloc)), number))
 }

@@ -13,6 +13,7 @@ use propagate::Store;
 use sat_base::Ref;
 use std::alloc::{AllocError, Global};
 use std::sync::Arc;
+use step_table::Steps;
 use trace_core::{Packet, Step};
 use trail_core::Trail;
 
@@ -50,7 +51,7 @@ pub(crate) struct Search {
     // The shared packet of each place that is known, places counted from 1.
     pub(crate) packets: Vec<Option<Arc<Packet>>>,
     // The own steps, and the numbers of those that are learnt clauses.
-    pub(crate) steps: Vec<Step>,
+    pub(crate) steps: Steps,
     pub(crate) learnt: Vec<u64>,
 }
 
@@ -86,24 +87,27 @@ impl Search {
             inputs: 0,
             bound: 0,
             packets: Vec::new(alloc),
-            steps: Vec::new(alloc),
+            steps: Steps::new(alloc),
             learnt: Vec::new(alloc),
         }
     }
 }
 
 /// Adds an own step behind the others and answers its number.
-pub(crate) fn push_step(search: &mut Search, step: Step) -> Result<u64, AllocError>
+pub(crate) fn push_step(search: &mut Search, step: &Step) -> Result<u64, AllocError>
     requires kept { IsSearching search.old }
-    requires ok { IsOkStep (table_of search.old) step }
+    requires ok { IsOkStep (table_of search.old) step.now }
     ensures kept { IsSearching search.new }
     ensures parts { search.new ≡ record search.old { steps = search.new.steps } }
-    ensures pushed { OnOk result (search.new.steps.items ≡ search.old.steps.items ++ step ∷ []) }
-    ensures number { IfOk result (λ number. number ≡ length search.new.steps.items) }
-    ensures name { IfOk result (λ number. table_of search.new (Own number) ≡ Some (known_of step)) }
-    ensures err { OnErr result (search.new.steps.items ≡ search.old.steps.items) }
-    ensures front { IsFront search.old.steps.items search.new.steps.items }
+    ensures pushed { OnOk result (search.new.steps ≡ search.old.steps ++ step.now ∷ []) }
+    ensures number { IfOk result (λ number. number ≡ length search.new.steps) }
+    ensures name { IfOk result
+        (λ number. table_of search.new (Own number) ≡ Some (known_of step.now)) }
+    ensures err { OnErr result (search.new.steps ≡ search.old.steps) }
+    ensures front { IsFront search.old.steps search.new.steps }
 {
-    search.steps.push(step)?;
+    search
+        .steps
+        .push(step.clause.lits(), step.hints.items(), step.tag)?;
     Ok(search.steps.len() as u64)
 }

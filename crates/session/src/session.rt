@@ -22,7 +22,8 @@ use sat_base::{Clause, Cube, Ref};
 use std::alloc::{AllocError, Global};
 use std::marker::Model;
 use std::sync::Arc;
-use trace_core::{Packet, Step};
+use step_table::Steps;
+use trace_core::Packet;
 
 /// One incremental solver. Contracts see it as its solver and the names of its published steps.
 #[derive(Debug, Drop)]
@@ -122,8 +123,8 @@ impl Session {
                 .is_some_and(|packet| packet.is_some())
     }
 
-    /// The own steps, in order. What every session keeps is told with them.
-    pub fn steps(&self) -> &[Step]
+    /// The table of the own steps. What every session keeps is told with them.
+    pub fn steps(&self) -> &Steps
         ensures value { result.now ≡ self.now.solver.steps }
         ensures sound { IsSound self.now.solver }
     {

@@ -1,6 +1,6 @@
 //! Small problems, loaded and solved.
 
-ghost use Rattle.std.specs.Prelude.{◌≡◌, ◌≤◌, [], ◌∷◌, Contains, IfOk};
+ghost use Rattle.std.specs.Prelude.{◌≡◌, ◌≤◌, [], ◌∷◌, Contains, IfOk, OnOk};
 ghost use Rattle.std.specs.Arc.{arc_value};
 ghost use Rattle.sat_base.specs.Lit.{IsTautology, code_of};
 ghost use Rattle.sat_base.specs.declared.origins.Ref.TheVariants.{Input};
@@ -17,6 +17,8 @@ use std::process::Abort;
 use std::sync::Arc;
 use std::test::Fail;
 use trace_core::{Hints, Packet, Step, Steps};
+
+mod decisions;
 
 fn lits(alloc: Global, rt: &impl Abort, numbers: &[i32]) -> Result<Vec<Lit>, AllocError> {
     let mut lits = Vec::new(alloc);
@@ -209,12 +211,12 @@ fn pigeons_are_refuted_after_a_pause(rt: HostRuntime) -> Result<(), Fail> {
 }
 
 // The number of the first learnt step.
-fn first_learnt(rt: &impl Abort, session: &Session) -> u64
-    ensures own { (one : Known) × IsStep session.now.solver.steps result one
-        × (IsTautology one.clause → ⊥) }
-    ensures held { (one : Known) × IsStep session.now.solver.steps result one
-        × Contains session.now.solver.held one }
-    ensures sound { IsSound session.now.solver }
+fn first_learnt(alloc: Global, rt: &impl Abort, session: &Session) -> Result<u64, AllocError>
+    ensures own { IfOk result (λ number. (one : Known)
+        × IsStep session.now.solver.steps number one × (IsTautology one.clause → ⊥)) }
+    ensures held { IfOk result (λ number. (one : Known)
+        × IsStep session.now.solver.steps number one × Contains session.now.solver.held one) }
+    ensures sound { OnOk result (IsSound session.now.solver) }
 {
     let learnt = session.learnt();
     assert!(rt; learnt.len() > 0);
@@ -222,11 +224,11 @@ fn first_learnt(rt: &impl Abort, session: &Session) -> u64
     let steps = session.steps();
     assert!(rt; number > 0);
     assert!(rt; number as usize <= steps.len());
-    let step = &steps[number as usize - 1];
-    if step.clause.is_tautology() {
+    let clause = steps.step(number as usize - 1).clause(alloc)?;
+    if clause.is_tautology() {
         panic!(rt; "a tautology was learnt");
     }
-    number
+    Ok(number)
 }
 
 // Publishes the first learnt step under a place that isn't known, and answers its packet, which a
@@ -242,7 +244,7 @@ fn share_first(
         × IsTakable session.old.solver (arc_value packet) one) }
 {
     assert!(rt; !session.knows(place));
-    let step = first_learnt(rt, session);
+    let step = first_learnt(alloc, rt, session)?;
     let packet = Arc::new(alloc, session.packet(step)?)?;
     session.published(step, place, &packet)?;
     Ok(packet)

@@ -8,15 +8,17 @@ mod chain;
 
 use anyhow::{Result, ensure};
 use std::time::CpuClock;
+use step_table::Steps;
 
 /// Trims and prints so many steps, and tells the processor time that both took.
 pub(crate) fn measure(rt: &HostRuntime, given: Option<u32>) -> Result<()> {
     let count = given.unwrap_or(1000);
     ensure!(count <= chain::MOST, "at most 1000000 steps");
 
-    let own = chain::steps(rt.alloc(), count)?;
+    let steps = chain::steps(rt.alloc(), count)?;
+    let own = Steps::of(rt.alloc(), &steps)?;
     let start = rt.process_cpu_time()?;
-    let trimmed = chain::trimmed(rt.alloc(), count, &own)?;
+    let trimmed = chain::trimmed(rt.alloc(), count, &steps, &own)?;
     let trimming = rt.process_cpu_time()?.saturating_sub(start);
     let start = rt.process_cpu_time()?;
     let text = chain::printed(rt.alloc(), count, &trimmed)?;

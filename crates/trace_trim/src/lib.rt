@@ -7,6 +7,7 @@
 //! is ok over it. This crate knows no text, no solver and no board.
 #![tactic(auto)]
 
+mod found_step;
 mod laws;
 mod lookup;
 mod own_reach;

@@ -6,31 +6,33 @@ ghost use Rattle.trace_core.specs.Known.{item_at};
 ghost use Rattle.trace_trim.specs.Names.{step_named, cited};
 ghost use Rattle.trace_trim.specs.Packed as packed;
 
+use crate::found_step::FoundStep;
 use sat_base::Ref;
 use std::sync::Arc;
-use trace_core::{Packet, Step};
+use step_table::Steps;
+use trace_core::Packet;
 
 /// The step of that name.
-pub(crate) fn step_of<'a>(packets: &'a [Arc<Packet>], own: &'a [Step], name: Ref) -> &'a Step
+pub(crate) fn step_of<'a>(packets: &'a [Arc<Packet>], own: &'a Steps, name: Ref) -> FoundStep<'a>
     requires { IsSome (step_named (map arc_value packets.now) own.now name) }
-    ensures { step_named (map arc_value packets.now) own.now name ≡ Some result.now }
+    ensures { step_named (map arc_value packets.now) own.now name ≡ Some result }
 {
     match name {
         Ref::Input(_) => unreachable!(),
         Ref::Shared { packet, step } => {
             let packet: &Packet = &packets[(packet - 1) as usize];
-            &packet.steps.items()[(step - 1) as usize]
+            FoundStep::of_packet(&packet.steps.items()[(step - 1) as usize])
         }
         Ref::Own(number) => own_step(own, number),
     }
 }
 
 /// The own step of that number, counted from 1.
-pub(crate) fn own_step(own: &[Step], number: u64) -> &Step
+pub(crate) fn own_step(own: &Steps, number: u64) -> FoundStep<'_>
     requires { IsSome (item_at own.now number) }
-    ensures { item_at own.now number ≡ Some result.now }
+    ensures { item_at own.now number ≡ Some result }
 {
-    &own[(number - 1) as usize]
+    FoundStep::own(own, (number - 1) as usize)
 }
 
 /// The name of the step that a hint of the step of that name names, `None` where it names an input.

@@ -7,17 +7,18 @@ ghost use Rattle.trace_trim.specs.Packed as packed;
 ghost use Rattle.trace_trim.specs.Packed.{AreNumbersPacked, CiteEarlierOwn};
 ghost use Rattle.trace_trim.specs.Reached.{LeadTo};
 
+use crate::found_step::FoundStep;
 use crate::lookup::{own_step, unnamed};
 use sat_base::Ref;
 use std::alloc::{AllocError, Global};
 use std::collections::BTreeSet;
-use trace_core::Step;
+use step_table::Steps;
 
 /// The numbers of the own steps that `pack` puts into the packet of own step `last`, ascending: it,
 /// and those without a name that it rests on.
 pub fn packed_numbers(
     alloc: Global,
-    own: &[Step],
+    own: &Steps,
     names: &[Option<Ref>],
     last: u64,
 ) -> Result<Vec<u64>, AllocError>
@@ -29,29 +30,30 @@ pub fn packed_numbers(
     let mut pending = BTreeSet::new(alloc);
     numbers.push(last)?;
     let first = own_step(own, last);
-    add_unnamed(&mut pending, names, first.hints.items())?;
+    add_unnamed(&mut pending, names, &first)?;
     while let Some(number) = pending.pop_last() {
         numbers.push(number)?;
         let step = own_step(own, number);
-        add_unnamed(&mut pending, names, step.hints.items())?;
+        add_unnamed(&mut pending, names, &step)?;
     }
     numbers.reverse();
     Ok(numbers)
 }
 
-/// Adds the numbers of the own steps without a name that these hints name.
+/// Adds the numbers of the own steps without a name that the step's hints name.
 fn add_unnamed(
     pending: &mut BTreeSet<u64>,
     names: &[Option<Ref>],
-    hints: &[Ref],
+    step: &FoundStep<'_>,
 ) -> Result<(), AllocError>
     ensures { OnOk result
         ((number : ℕ)
         → Contains pending.new.keys number
-        ↔ (Contains pending.old.keys number ⊎ LeadTo (packed.unnamed names.now) hints.now number)) }
+        ↔ (Contains pending.old.keys number
+        ⊎ LeadTo (packed.unnamed names.now) step.now.hints number)) }
 {
-    for hint in hints {
-        if let Some(number) = unnamed(names, *hint) {
+    for place in 0..step.count_hints() {
+        if let Some(number) = unnamed(names, step.hint(place)) {
             pending.insert(number)?;
         }
     }

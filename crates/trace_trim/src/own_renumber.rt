@@ -9,6 +9,7 @@ ghost use Rattle.trace_trim.specs.Packed.{IsPackedHint};
 ghost use Rattle.trace_trim.specs.Reached.{LeadTo};
 ghost use Rattle.trace_trim.specs.Trimmed.{IsStepWithHints};
 
+use crate::found_step::FoundStep;
 use crate::lookup::name_of;
 use crate::renumber::with_hints;
 use sat_base::Ref;
@@ -48,17 +49,17 @@ fn packed_hints(
     alloc: Global,
     names: &[Option<Ref>],
     numbers: &[u64],
-    hints: &[Ref],
+    step: &FoundStep<'_>,
 ) -> Result<Vec<Ref>, AllocError>
     requires ascending { AllPairs (λ m n. m < n) numbers.now }
-    requires there { (number : ℕ) → LeadTo (packed.unnamed names.now) hints.now number
+    requires there { (number : ℕ) → LeadTo (packed.unnamed names.now) step.now.hints number
         → Contains numbers.now number }
-    ensures { IfOk result
-        (λ renumbered. AllZip (IsPackedHint names.now numbers.now) hints.now renumbered.items) }
+    ensures { IfOk result (λ renumbered. AllZip (IsPackedHint names.now numbers.now)
+        step.now.hints renumbered.items) }
 {
-    let mut renumbered = Vec::with_capacity(alloc, hints.len())?;
-    for hint in hints {
-        renumbered.push(packed_hint(names, numbers, *hint))?;
+    let mut renumbered = Vec::with_capacity(alloc, step.count_hints())?;
+    for place in 0..step.count_hints() {
+        renumbered.push(packed_hint(names, numbers, step.hint(place)))?;
     }
     Ok(renumbered)
 }
@@ -68,13 +69,13 @@ pub(crate) fn packed_step(
     alloc: Global,
     names: &[Option<Ref>],
     numbers: &[u64],
-    step: &Step,
+    step: &FoundStep<'_>,
 ) -> Result<Step, AllocError>
     requires ascending { AllPairs (λ m n. m < n) numbers.now }
     requires there { (number : ℕ) → LeadTo (packed.unnamed names.now) step.now.hints number
         → Contains numbers.now number }
     ensures { IfOk result (IsStepWithHints (IsPackedHint names.now numbers.now) step.now) }
 {
-    let hints = packed_hints(alloc, names, numbers, step.hints.items())?;
+    let hints = packed_hints(alloc, names, numbers, step)?;
     with_hints(alloc, step, hints)
 }

@@ -9,9 +9,10 @@ ghost use Rattle.trace_trim.specs.Packed.{HasGreatestTagLast, AreOfOwn};
 use crate::lookup::own_step;
 use crate::own_reach::packed_numbers;
 use crate::own_renumber::packed_step;
-use sat_base::Ref;
+use sat_base::{Items, Ref};
 use std::alloc::{AllocError, Global};
-use trace_core::{Packet, Step, Steps};
+use step_table::Steps;
+use trace_core::Packet;
 
 /// The packet of own step `last`, counted from 1: that step, and those own steps that it rests on
 /// and that have no name in the shared database, in their order and numbered anew. Item n - 1 of
@@ -20,7 +21,7 @@ use trace_core::{Packet, Step, Steps};
 /// were learnt.
 pub fn pack(
     alloc: Global,
-    own: &[Step],
+    own: &Steps,
     names: &[Option<Ref>],
     last: u64,
 ) -> Result<Packet, AllocError>
@@ -36,9 +37,9 @@ pub fn pack(
     let mut steps = Vec::with_capacity(alloc, numbers.len())?;
     for number in &numbers {
         let step = own_step(own, *number);
-        steps.push(packed_step(alloc, names, &numbers, step)?)?;
+        steps.push(packed_step(alloc, names, &numbers, &step)?)?;
     }
     Ok(Packet {
-        steps: Steps::of(steps),
+        steps: Items::of(steps),
     })
 }

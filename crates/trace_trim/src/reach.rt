@@ -7,18 +7,20 @@ ghost use Rattle.trace_core.specs.Known.{item_at};
 ghost use Rattle.trace_trim.specs.Names.{AreCiting, CiteEarlierSteps};
 ghost use Rattle.trace_trim.specs.Trimmed.{AreNamesReached};
 
+use crate::found_step::FoundStep;
 use crate::lookup::{cited_by, step_of};
 use sat_base::Ref;
 use std::alloc::{AllocError, Global};
 use std::collections::BTreeSet;
 use std::sync::Arc;
-use trace_core::{Packet, Step};
+use step_table::Steps;
+use trace_core::Packet;
 
 /// The names of the steps that own step `last` rests on, each after those that its hints name.
 pub(crate) fn reached_from(
     alloc: Global,
     packets: &[Arc<Packet>],
-    own: &[Step],
+    own: &Steps,
     last: u64,
 ) -> Result<Vec<Ref>, AllocError>
     requires last { IsSome (item_at own.now last) }
@@ -30,25 +32,25 @@ pub(crate) fn reached_from(
     let mut pending = BTreeSet::new(alloc);
     names.push(Ref::Own(last))?;
     let first = step_of(packets, own, Ref::Own(last));
-    add_cited(&mut pending, Ref::Own(last), first.hints.items())?;
+    add_cited(&mut pending, Ref::Own(last), &first)?;
     while let Some(name) = pending.pop_last() {
         names.push(name)?;
         let step = step_of(packets, own, name);
-        add_cited(&mut pending, name, step.hints.items())?;
+        add_cited(&mut pending, name, &step)?;
     }
     names.reverse();
     Ok(names)
 }
 
-/// Adds the names of the steps that these hints of the step of that name name.
-fn add_cited(pending: &mut BTreeSet<Ref>, user: Ref, hints: &[Ref]) -> Result<(), AllocError>
+/// Adds the names of the steps that the hints of this step, which has that name, name.
+fn add_cited(pending: &mut BTreeSet<Ref>, user: Ref, step: &FoundStep<'_>) -> Result<(), AllocError>
     ensures { OnOk result
         ((name : Ref)
         → Contains pending.new.keys name
-        ↔ (Contains pending.old.keys name ⊎ AreCiting user hints.now name)) }
+        ↔ (Contains pending.old.keys name ⊎ AreCiting user step.now.hints name)) }
 {
-    for hint in hints {
-        if let Some(name) = cited_by(user, *hint) {
+    for place in 0..step.count_hints() {
+        if let Some(name) = cited_by(user, step.hint(place)) {
             pending.insert(name)?;
         }
     }

@@ -7,6 +7,7 @@ ghost use Rattle.trace_core.specs.Known.{item_at};
 ghost use Rattle.trace_trim.specs.Names.{AreCiting, IsBefore, cited};
 ghost use Rattle.trace_trim.specs.Trimmed.{IsRenumberedHint, IsStepRenumbered};
 
+use crate::found_step::FoundStep;
 use crate::lookup::cited_by;
 use sat_base::Ref;
 use std::alloc::{AllocError, Global};
@@ -41,16 +42,16 @@ fn renumbered_hints(
     alloc: Global,
     names: &[Ref],
     user: Ref,
-    hints: &[Ref],
+    step: &FoundStep<'_>,
 ) -> Result<Vec<Ref>, AllocError>
     requires ascending { AllPairs IsBefore names.now }
-    requires there { (name : Ref) → AreCiting user hints.now name → Contains names.now name }
+    requires there { (name : Ref) → AreCiting user step.now.hints name → Contains names.now name }
     ensures { IfOk result
-        (λ renumbered. AllZip (IsRenumberedHint names.now user) hints.now renumbered.items) }
+        (λ renumbered. AllZip (IsRenumberedHint names.now user) step.now.hints renumbered.items) }
 {
-    let mut renumbered = Vec::with_capacity(alloc, hints.len())?;
-    for hint in hints {
-        renumbered.push(renumbered_hint(names, user, *hint))?;
+    let mut renumbered = Vec::with_capacity(alloc, step.count_hints())?;
+    for place in 0..step.count_hints() {
+        renumbered.push(renumbered_hint(names, user, step.hint(place)))?;
     }
     Ok(renumbered)
 }
@@ -60,23 +61,27 @@ pub(crate) fn renumbered_step(
     alloc: Global,
     names: &[Ref],
     user: Ref,
-    step: &Step,
+    step: &FoundStep<'_>,
 ) -> Result<Step, AllocError>
     requires ascending { AllPairs IsBefore names.now }
     requires there { (name : Ref) → AreCiting user step.now.hints name → Contains names.now name }
     ensures { IfOk result (IsStepRenumbered names.now user step.now) }
 {
-    let hints = renumbered_hints(alloc, names, user, step.hints.items())?;
+    let hints = renumbered_hints(alloc, names, user, step)?;
     with_hints(alloc, step, hints)
 }
 
 /// The step with these hints in place of its own.
-pub(crate) fn with_hints(alloc: Global, step: &Step, hints: Vec<Ref>) -> Result<Step, AllocError>
+pub(crate) fn with_hints(
+    alloc: Global,
+    step: &FoundStep<'_>,
+    hints: Vec<Ref>,
+) -> Result<Step, AllocError>
     ensures { IfOk result (λ new. new ≡ record step.now { hints = hints.items }) }
 {
     Ok(Step {
-        clause: step.clause.copy(alloc)?,
+        clause: step.clause(alloc)?,
         hints: Hints::of(hints),
-        tag: step.tag,
+        tag: step.tag(),
     })
 }

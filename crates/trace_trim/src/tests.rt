@@ -9,6 +9,7 @@ use sat_base::{Clause, Lit, Ref};
 use std::alloc::Global;
 use std::sync::Arc;
 use std::test::Fail;
+use step_table::Steps;
 use trace_core::{Hints, Packet, Step};
 
 // The step of that literal alone with these hints.
@@ -32,7 +33,7 @@ fn a_step_that_is_not_reached_is_dropped(rt: HostRuntime) -> Result<(), Fail> {
     let second = unit(alloc, 2, &[Input(1), Input(2)])?;
     let third = unit(alloc, 3, &[Input(1), Input(3)])?;
     let packets: [Arc<Packet>; 0] = [];
-    let own = [second, third];
+    let own = Steps::of(alloc, &[second, third])?;
     let trimmed = trim(alloc, &packets, &own, 2)?;
     assert_eq!(rt; trimmed.len(), 1);
     for step in &trimmed {
@@ -45,15 +46,15 @@ fn a_step_that_is_not_reached_is_dropped(rt: HostRuntime) -> Result<(), Fail> {
 }
 
 // The chain of 1, 2 and 3 over the inputs 1, -1 2 and -2 3.
-fn chain(alloc: Global) -> Result<Vec<Step>, Fail>
-    ensures back { IfOk result (λ steps. CiteEarlierOwn steps.items) }
-    ensures three { IfOk result (λ steps. length steps.items ≡ 3) }
+fn chain(alloc: Global) -> Result<Steps, Fail>
+    ensures back { IfOk result CiteEarlierOwn }
+    ensures three { IfOk result (λ steps. length steps ≡ 3) }
 {
     let mut steps = Vec::new(alloc);
     steps.push(unit(alloc, 1, &[Input(1)])?)?;
     steps.push(unit(alloc, 2, &[Own(1), Input(2)])?)?;
     steps.push(unit(alloc, 3, &[Own(2), Input(3)])?)?;
-    Ok(steps)
+    Ok(Steps::of(alloc, &steps)?)
 }
 
 // The packet of a step of that chain.

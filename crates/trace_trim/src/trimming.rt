@@ -11,6 +11,7 @@ use crate::reach::reached_from;
 use crate::renumber::renumbered_step;
 use std::alloc::{AllocError, Global};
 use std::sync::Arc;
+use step_table::Steps;
 use trace_core::{Packet, Step};
 
 /// The steps that own step `last`, counted from 1, rests on: exactly those that are reached from it
@@ -21,7 +22,7 @@ use trace_core::{Packet, Step};
 pub fn trim(
     alloc: Global,
     packets: &[Arc<Packet>],
-    own: &[Step],
+    own: &Steps,
     last: u64,
 ) -> Result<Vec<Step>, AllocError>
     requires last { IsSome (item_at own.now last) }
@@ -35,7 +36,7 @@ pub fn trim(
     let mut steps = Vec::with_capacity(alloc, names.len())?;
     for name in &names {
         let step = step_of(packets, own, *name);
-        steps.push(renumbered_step(alloc, &names, *name, step)?)?;
+        steps.push(renumbered_step(alloc, &names, *name, &step)?)?;
     }
     Ok(steps)
 }

@@ -10,6 +10,7 @@ ghost use Rattle.trace_text.specs.Text.{CiteEarlier, IsHintBelow};
 use sat_base::{Clause, Lit, Ref};
 use std::alloc::{AllocError, Global};
 use std::sync::Arc;
+use step_table::Steps;
 use trace_core::{Hints, Packet, Step};
 
 pub const MOST: u32 = 1_000_000;
@@ -86,13 +87,20 @@ fn cite_earlier_steps(inputs: u64, own: &[Step]) -> bool
     cite_earlier(inputs, own)
 }
 
-/// The steps that the last one rests on; nothing where a hint looks ahead.
-pub fn trimmed(alloc: Global, count: u32, own: &[Step]) -> Result<Vec<Step>, AllocError>
-    requires { count ≤ 1000000 }
+/// The steps that the last one rests on, where these are the steps of the table; nothing where a
+/// hint looks ahead.
+pub fn trimmed(
+    alloc: Global,
+    count: u32,
+    steps: &[Step],
+    own: &Steps,
+) -> Result<Vec<Step>, AllocError>
+    requires count { count ≤ 1000000 }
+    requires own { own.now ≡ steps.now }
 {
     let packets: [Arc<Packet>; 0] = [];
-    let earlier = cite_earlier_steps(count as u64 + 1, own);
-    if !earlier || own.is_empty() {
+    let earlier = cite_earlier_steps(count as u64 + 1, steps);
+    if !earlier || steps.is_empty() {
         return Ok(Vec::new(alloc));
     }
     trace_trim::trim(alloc, &packets, own, own.len() as u64)

@@ -141,7 +141,7 @@ returns-clause-ok c =
     both_ok c.hold.result held listed (LearnsOne (solver_of old) (solver_of h))
     (λ added last. lesson_learnt old p b h lesson number (kept_bumped (goal.at.returns-clause-ok c).After-count_clause) (lesson_bumped (goal.at.returns-clause-ok c).After-count_clause) c.unassigned.ensures.set
     (stepped (goal.at.returns-clause-ok c).After-push_step)
-    (c.in_ok-number.ensures.pushed ∙ ap (λ (x : Search). x.steps.items
+    (c.in_ok-number.ensures.pushed ∙ ap (λ (x : Search). x.steps
     ++ lesson.step ∷ []) c.in_ok-clause.ensures.same)
     c.in_ok-number.ensures.number c.backjump.ensures.parts c.hold.ensures.parts added last)
     c.hold.ensures.held c.hold.ensures.listed

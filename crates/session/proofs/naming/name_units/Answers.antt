@@ -14,10 +14,10 @@ loop-search-preserved c =
     let with_new : Search → Search = λ s. record s { units = new.units; tags = new.tags; named = new.named; steps = new.steps } in (
       e.kept,
       e.parts ∙ ap with_new c.loop-search.invariant.1,
-      units_more old.steps.items mid.steps.items new.steps.items c.loop-search.invariant.2 e.steps,
+      units_more old.steps mid.steps new.steps c.loop-search.invariant.2 e.steps,
       omega (arith, e.one, c.loop-search-test.true, ap length c.lits.ensures.value, length-map mid.trail.entries (λ (x : Entry). x.lit), ap (λ (s : Search). length s.trail.entries) c.loop-search.invariant.1),
     )
 
 pub returns-in_err-name_next-clause-steps : goal.returns-in_err-name_next-clause-steps
 returns-in_err-name_next-clause-steps c =
-    units_more c.args.search.now.steps.items c.loop-search.search.steps.items c.name_next.new.search.steps.items c.loop-search.invariant.2 c.in_err-name_next.ensures.steps
+    units_more c.args.search.now.steps c.loop-search.search.steps c.name_next.new.search.steps c.loop-search.invariant.2 c.in_err-name_next.ensures.steps

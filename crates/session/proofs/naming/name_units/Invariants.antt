@@ -11,7 +11,7 @@ invariant-loop-search l =
       named = l.search.named;
       steps = l.search.steps;
     })
-    × HasUnitsMore l.fn.search.steps.items l.search.steps.items
+    × HasUnitsMore l.fn.search.steps l.search.steps
     × (l.search.named ≤ length l.fn.search.trail.entries)
 
 abbrev pub decreases-loop-search : goal.decreases-loop-search

@@ -24,7 +24,7 @@ named_then : (old new : Search) (store : StoreView) (trail : TrailView) → IsSe
       named = new.named;
       steps = new.steps;
     }
-    → HasUnitsMore old.steps.items new.steps.items
+    → HasUnitsMore old.steps new.steps
     → Learns (solver_of old) (solver_of new) [] []
 named_then old new store trail kept same parts more =
     learns_then (solver_of old) (solver_of (record old { store = store; trail = trail }))

@@ -63,9 +63,9 @@ push_step-requires-clause-ok c =
 
 pub returns-clause-last : goal.returns-clause-last
 returns-clause-last c =
-    let old = c.args.search.now.steps.items in
-    let mid = c.name_units.new.search.steps.items in
-    let new = c.push_step.new.search.steps.items in
+    let old = c.args.search.now.steps in
+    let mid = c.name_units.new.search.steps in
+    let new = c.push_step.new.search.steps in
     let number = c.in_ok-number.number in
     steps_then old mid new [] (number ∷ []) (units_steps old mid c.in_ok-name_units.ensures.steps)
     (pushed_steps mid new c.in_ok-step.step number c.in_ok-number.ensures.pushed c.in_ok-number.ensures.number)
@@ -75,7 +75,7 @@ returns-clause-answer c = λ cube.
     let new = c.push_step.new.search in
     let part_is : c.of_ascending.result ≡ [] = c.of_ascending.ensures ∙ c.new.ensures.items in
     subst (λ (store : StoreView). IsRefutation
-    (inputs_of store.clauses) new.steps.items cube c.of_ascending.result c.in_ok-number.number)
+    (inputs_of store.clauses) new.steps cube c.of_ascending.result c.in_ok-number.number)
     (ap (λ (x : Search). x.store) c.in_ok-number.ensures.parts
     ∙ ap (λ (x : Search). x.store) c.in_ok-name_units.ensures.parts)
     (refutation_from new cube c.of_ascending.result c.in_ok-number.number c.in_ok-step.step c.in_ok-number.ensures.kept c.in_ok-number.ensures.name

@@ -30,14 +30,14 @@ push_step-requires-clause-ok c =
     (derived (table_of s) (knows_arena s c.requires.kept) c.requires.units).ok
 
 pub returns-clause-last : goal.returns-clause-last
-returns-clause-last c = pushed_steps c.args.search.now.steps.items c.push_step.new.search.steps.items c.in_ok-part.step c.in_ok-number.number c.in_ok-number.ensures.pushed c.in_ok-number.ensures.number
+returns-clause-last c = pushed_steps c.args.search.now.steps c.push_step.new.search.steps c.in_ok-part.step c.in_ok-number.number c.in_ok-number.ensures.pushed c.in_ok-number.ensures.number
 
 pub returns-clause-answer : goal.returns-clause-answer
 returns-clause-answer c = λ cube for_cube stands.
     let s = c.args.search.now in
     let new = c.push_step.new.search in
     subst (λ (store : StoreView). IsRefutation
-    (inputs_of store.clauses) new.steps.items cube c.in_ok-part.part c.in_ok-number.number)
+    (inputs_of store.clauses) new.steps cube c.in_ok-part.part c.in_ok-number.number)
     (ap (λ (x : Search). x.store) c.in_ok-number.ensures.parts)
     (refutation_from new cube c.in_ok-part.part c.in_ok-number.number c.in_ok-part.step c.in_ok-number.ensures.kept c.in_ok-number.ensures.name
     (part_within s.trail cube c.in_ok-part.part c.args.lit c.requires.kept.trail for_cube c.in_ok-part.ensures.part stands c.requires.refuted)

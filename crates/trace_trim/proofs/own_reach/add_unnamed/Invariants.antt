@@ -4,5 +4,5 @@ use Rattle.trace_trim.specs.Packed.{unnamed}
 use Rattle.trace_trim.specs.Reached.{LeadTo}
 use Rattle.trace_trim.proofs.own_reach.add_unnamed.Given as goal
 
-abbrev pub invariant-loop-hint : goal.invariant-loop-hint
-invariant-loop-hint l = (number : ℕ) → Contains l.pending.keys number ↔ (Contains l.initial.pending.keys number ⊎ LeadTo (unnamed l.names) (take l.hint-index l.hints) number)
+abbrev pub invariant-loop-place : goal.invariant-loop-place
+invariant-loop-place l = (number : ℕ) → Contains l.pending.keys number ↔ (Contains l.initial.pending.keys number ⊎ LeadTo (unnamed l.names) (take l.place l.step.hints) number)

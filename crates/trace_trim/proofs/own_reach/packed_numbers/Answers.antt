@@ -15,9 +15,8 @@ use Rattle.trace_trim.proofs.own_reach.packed_numbers.Goals as goal
 pub loop-number-init : goal.loop-number-init
 loop-number-init c = begun (RestsOn c.args.own.now c.args.names.now) (λ m n. m < n) (IsThere c.args.own.now) c.args.last c.push.new.self.items c.add_unnamed.new.pending.keys
     (looks_back c.args.own.now c.args.names.now c.requires.earlier) (search rules)
-    (cited_now (λ (step : Step) other. LeadTo (unnamed c.args.names.now) step.hints other) (item_at c.args.own.now c.args.last) c.own_step-first.result.now [] c.add_unnamed.new.pending.keys c.own_step-first.ensures
-    (subst (λ hints. (other : ℕ) → Contains c.add_unnamed.new.pending.keys other ↔ (Contains [] other ⊎ LeadTo (unnamed c.args.names.now) hints other)) c.items.ensures
-    (subst (λ old. (other : ℕ) → Contains c.add_unnamed.new.pending.keys other ↔ (Contains old other ⊎ LeadTo (unnamed c.args.names.now) c.items.result.now other)) c.new-pending.ensures.empty c.in_ok-add_unnamed.ensures)))
+    (cited_now (λ (step : Step) other. LeadTo (unnamed c.args.names.now) step.hints other) (item_at c.args.own.now c.args.last) c.own_step-first.result [] c.add_unnamed.new.pending.keys c.own_step-first.ensures
+    (subst (λ old. (other : ℕ) → Contains c.add_unnamed.new.pending.keys other ↔ (Contains old other ⊎ LeadTo (unnamed c.args.names.now) c.own_step-first.result.hints other)) c.new-pending.ensures.empty c.in_ok-add_unnamed.ensures))
 
 pub own_step-step-requires : goal.own_step-step-requires
 own_step-step-requires c = c.loop-number.invariant.there c.in-Some.number (subst (λ keys. Contains keys c.in-Some.number) (sym c.in-Some.ensures.removal) (Contains-push c.pop_last.new.self.keys c.in-Some.number))
@@ -28,8 +27,7 @@ loop-number-preserved c = subst (λ numbers. IsOwnWalk c.args.own.now c.args.nam
     c.loop-number.numbers.items c.loop-number.pending.keys c.pop_last.new.self.keys c.add_unnamed-in-Some.new.pending.keys c.in-Some.number
     (looks_back c.args.own.now c.args.names.now c.requires.earlier) c.loop-number.invariant c.in-Some.ensures.removal
     (λ other has. less_than-from_less other c.in-Some.number (All-contains (λ key. nat_cmp key c.in-Some.number ≡ Less) c.pop_last.new.self.keys other c.in-Some.ensures.all_below has))
-    (cited_now (λ (step : Step) other. LeadTo (unnamed c.args.names.now) step.hints other) (item_at c.args.own.now c.in-Some.number) c.own_step-step.result.now c.pop_last.new.self.keys c.add_unnamed-in-Some.new.pending.keys c.own_step-step.ensures
-    (subst (λ hints. (other : ℕ) → Contains c.add_unnamed-in-Some.new.pending.keys other ↔ (Contains c.pop_last.new.self.keys other ⊎ LeadTo (unnamed c.args.names.now) hints other)) c.items-in-Some.ensures c.in_ok-add_unnamed-2.ensures)))
+    (cited_now (λ (step : Step) other. LeadTo (unnamed c.args.names.now) step.hints other) (item_at c.args.own.now c.in-Some.number) c.own_step-step.result c.pop_last.new.self.keys c.add_unnamed-in-Some.new.pending.keys c.own_step-step.ensures c.in_ok-add_unnamed-2.ensures))
 
 pub loop-number-smaller : goal.loop-number-smaller
 loop-number-smaller c = falls (RestsOn c.args.own.now c.args.names.now) (λ m n. m < n) (IsThere c.args.own.now) (λ number. number) c.args.last

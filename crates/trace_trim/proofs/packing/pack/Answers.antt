@@ -21,14 +21,14 @@ pub packed_step-requires-clause-there : goal.packed_step-requires-clause-there
 packed_step-requires-clause-there c = λ number leads. subst (λ numbers. Contains numbers number) (c.deref-number-items.ensures.value ∙ sym c.deref.ensures.value)
     (cited_there (RestsOn c.args.own.now c.args.names.now) (λ m n. m < n) c.args.last c.deref-number-items.result.now (slice_index_or c.deref-number-items.result.now c.loop-number.number-index 0) number
     (subst (AreNumbersPacked c.args.own.now c.args.names.now c.args.last) (sym c.deref-number-items.ensures.value) c.in_ok-numbers.ensures)
-    (Contains-get_or c.deref-number-items.result.now c.loop-number.number-index 0 c.loop-number-test.true) (c.own_step-step.result.now, c.own_step-step.ensures, leads))
+    (Contains-get_or c.deref-number-items.result.now c.loop-number.number-index 0 c.loop-number-test.true) (c.own_step-step.result, c.own_step-step.ensures, leads))
 
 pub loop-number-preserved : goal.loop-number-preserved
 loop-number-preserved c = subst (λ numbers. AllZip (IsPackedStep c.args.own.now c.args.names.now c.deref-number-items.result.now) numbers c.push.new.self.items) (sym (take_more c.deref-number-items.result.now c.loop-number.number-index 0 c.loop-number-test.true))
     (subst (AllZip (IsPackedStep c.args.own.now c.args.names.now c.deref-number-items.result.now) (take c.loop-number.number-index c.deref-number-items.result.now ++ slice_index_or c.deref-number-items.result.now c.loop-number.number-index 0 ∷ [])) (sym c.in_ok-push.ensures.items)
     (zip_push (IsPackedStep c.args.own.now c.args.names.now c.deref-number-items.result.now) (take c.loop-number.number-index c.deref-number-items.result.now) c.loop-number.steps.items
     (slice_index_or c.deref-number-items.result.now c.loop-number.number-index 0) c.in_ok-packed_step.field-0 c.loop-number.invariant
-    (c.own_step-step.result.now, c.own_step-step.ensures, subst (λ numbers. IsStepWithHints (IsPackedHint c.args.names.now numbers) c.own_step-step.result.now c.in_ok-packed_step.field-0) (c.deref.ensures.value ∙ sym c.deref-number-items.ensures.value) c.in_ok-packed_step.ensures)))
+    (c.own_step-step.result, c.own_step-step.ensures, subst (λ numbers. IsStepWithHints (IsPackedHint c.args.names.now numbers) c.own_step-step.result c.in_ok-packed_step.field-0) (c.deref.ensures.value ∙ sym c.deref-number-items.ensures.value) c.in_ok-packed_step.ensures)))
 
 pub returns-clause-pack : goal.returns-clause-pack
 returns-clause-pack c = subst (IsPack c.args.own.now c.args.names.now c.args.last) (sym c.of.ensures) (record {

@@ -3,5 +3,5 @@ use Rattle.std.specs.List.{AllZip}
 use Rattle.trace_trim.specs.Trimmed.{IsRenumberedHint}
 use Rattle.trace_trim.proofs.renumber.renumbered_hints.Given as goal
 
-abbrev pub invariant-loop-hint : goal.invariant-loop-hint
-invariant-loop-hint l = AllZip (IsRenumberedHint l.names l.user) (take l.hint-index l.hints) l.renumbered.items
+abbrev pub invariant-loop-place : goal.invariant-loop-place
+invariant-loop-place l = AllZip (IsRenumberedHint l.names l.user) (take l.place l.step.hints) l.renumbered.items

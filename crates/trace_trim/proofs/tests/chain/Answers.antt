@@ -1,4 +1,4 @@
-use Rattle.std.proofs.Common.{◌≡◌, ℕ, zero, suc, ◌+◌, ◌-◌, ◌<◌, ◌≤◌, [], ◌∷◌, rules, subst, sym, inl, inr, arith}
+use Rattle.std.proofs.Common.{◌≡◌, ◌∙◌, ℕ, zero, suc, ◌+◌, ◌-◌, ◌<◌, ◌≤◌, [], ◌∷◌, rules, subst, sym, inl, inr, arith}
 use Rattle.std.specs.Prelude.{Contains, ◌⊎◌, Some, slice_get}
 use Rattle.sat_base.proofs.Members.{Contains-cases}
 use Rattle.sat_base.specs.declared.origins.Ref.TheVariants.{Input, Own}
@@ -48,4 +48,4 @@ returns-clause-back c =
     let b = c.in_ok-unit-2.field-0 in
     let d = c.in_ok-unit-3.field-0 in
     let all : c.push-3.new.self.items ≡ a ∷ b ∷ d ∷ [] = search rules in
-    subst CiteEarlierOwn (sym all) (chain_back a b d c.in_ok-unit.ensures c.in_ok-unit-2.ensures c.in_ok-unit-3.ensures)
+    subst CiteEarlierOwn (sym (c.in_ok-of.ensures ∙ c.deref.ensures.value ∙ all)) (chain_back a b d c.in_ok-unit.ensures c.in_ok-unit-2.ensures c.in_ok-unit-3.ensures)

@@ -22,14 +22,14 @@ pub renumbered_step-requires-clause-there : goal.renumbered_step-requires-clause
 renumbered_step-requires-clause-there c = λ name citing. subst (λ names. Contains names name) (c.deref-name-items.ensures.value ∙ sym c.deref.ensures.value)
     (cited_there (Cites (map arc_value c.args.packets.now) c.args.own.now) IsBefore (Own c.args.last) c.deref-name-items.result.now (slice_index_or c.deref-name-items.result.now c.loop-name.name-index (Input 0)) name
     (subst (AreNamesReached (map arc_value c.args.packets.now) c.args.own.now c.args.last) (sym c.deref-name-items.ensures.value) c.in_ok-names.ensures)
-    (Contains-get_or c.deref-name-items.result.now c.loop-name.name-index (Input 0) c.loop-name-test.true) (c.step_of-step.result.now, c.step_of-step.ensures, citing))
+    (Contains-get_or c.deref-name-items.result.now c.loop-name.name-index (Input 0) c.loop-name-test.true) (c.step_of-step.result, c.step_of-step.ensures, citing))
 
 pub loop-name-preserved : goal.loop-name-preserved
 loop-name-preserved c = subst (λ names. AllZip (IsRenumbered (map arc_value c.args.packets.now) c.args.own.now c.deref-name-items.result.now) names c.push.new.self.items) (sym (take_more c.deref-name-items.result.now c.loop-name.name-index (Input 0) c.loop-name-test.true))
     (subst (AllZip (IsRenumbered (map arc_value c.args.packets.now) c.args.own.now c.deref-name-items.result.now) (take c.loop-name.name-index c.deref-name-items.result.now ++ slice_index_or c.deref-name-items.result.now c.loop-name.name-index (Input 0) ∷ [])) (sym c.in_ok-push.ensures.items)
     (zip_push (IsRenumbered (map arc_value c.args.packets.now) c.args.own.now c.deref-name-items.result.now) (take c.loop-name.name-index c.deref-name-items.result.now) c.loop-name.steps.items
     (slice_index_or c.deref-name-items.result.now c.loop-name.name-index (Input 0)) c.in_ok-renumbered_step.field-0 c.loop-name.invariant
-    (c.step_of-step.result.now, c.step_of-step.ensures, subst (λ names. IsStepRenumbered names (slice_index_or c.deref-name-items.result.now c.loop-name.name-index (Input 0)) c.step_of-step.result.now c.in_ok-renumbered_step.field-0) (c.deref.ensures.value ∙ sym c.deref-name-items.ensures.value) c.in_ok-renumbered_step.ensures)))
+    (c.step_of-step.result, c.step_of-step.ensures, subst (λ names. IsStepRenumbered names (slice_index_or c.deref-name-items.result.now c.loop-name.name-index (Input 0)) c.step_of-step.result c.in_ok-renumbered_step.field-0) (c.deref.ensures.value ∙ sym c.deref-name-items.ensures.value) c.in_ok-renumbered_step.ensures)))
 
 pub returns-clause-reached : goal.returns-clause-reached
 returns-clause-reached c = record {

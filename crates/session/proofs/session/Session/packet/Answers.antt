@@ -19,14 +19,12 @@ use Rattle.session.proofs.session.Session.packet.Goals as goal
 pub pack-requires-clause-earlier : goal.pack-requires-clause-earlier
 pack-requires-clause-earlier c =
     let s = c.self.inside.search in
-    subst CiteEarlierOwn (sym c.deref.ensures.value)
-    (ok_look_back (inputs_of s.store.clauses) (shared_by (packets_of s)) s.steps.items
-    (sound s c.self.invariant.kept).ok)
+    ok_look_back (inputs_of s.store.clauses) (shared_by (packets_of s)) s.steps
+    (sound s c.self.invariant.kept).ok
 
 pub returns-clause-sharable : goal.returns-clause-sharable
 returns-clause-sharable c =
     let s = c.self.inside.search in
-    let steps = c.deref.ensures.value in
     subst (λ (view : SessionView). IfOk c.pack.result
     (λ packet. (one : Known) → IsStep view.solver.steps c.args.step one
     → IsSharable view.solver one packet)) c.self.view_is
@@ -35,12 +33,5 @@ returns-clause-sharable c =
     (subst (λ (view : SessionView). (one : Known) × IsStep view.solver.steps c.args.step one
     × (IsTautology one.clause → ⊥)) (sym c.self.view_is) c.requires.own)
     (subst (λ (names : List (Option Ref)). IfOk c.pack.result
-    (IsOkWhereOwnAreOk s.steps.items names)) c.deref-2.ensures.value
-    (subst (λ (own : List Step). IfOk c.pack.result
-    (IsOkWhereOwnAreOk own c.deref-2.result.now)) steps c.pack.ensures.ok))
-    (subst (λ (own : List Step). IfOk c.pack.result
-    (λ packet. ends_in packet
-    ≡ item_at (map known_of own) c.args.step)) steps c.pack.ensures.ends)
-    (subst (λ (own : List Step). IfOk c.pack.result
-    (HasGreatestTagLast own)) steps c.pack.ensures.tags)
-    (subst (λ (own : List Step). IfOk c.pack.result (AreOfOwn own)) steps c.pack.ensures.of_own))
+    (IsOkWhereOwnAreOk s.steps names)) c.deref.ensures.value c.pack.ensures.ok)
+    c.pack.ensures.ends c.pack.ensures.tags c.pack.ensures.of_own)

@@ -21,9 +21,8 @@ use Rattle.session.proofs.session.Session.published.Goals as goal
 pub packed_numbers-requires-clause-earlier : goal.packed_numbers-requires-clause-earlier
 packed_numbers-requires-clause-earlier c =
     let s = c.self.inside.search in
-    subst CiteEarlierOwn (sym c.deref.ensures.value)
-    (ok_look_back (inputs_of s.store.clauses) (shared_by (packets_of s)) s.steps.items
-    (sound s c.self.invariant.kept).ok)
+    ok_look_back (inputs_of s.store.clauses) (shared_by (packets_of s)) s.steps
+    (sound s c.self.invariant.kept).ok
 
 pub know-requires-clause-held : goal.know-requires-clause-held
 know-requires-clause-held c =
@@ -32,29 +31,29 @@ know-requires-clause-held c =
     (sym c.self.view_is) c.requires.held in
     let pack = subst (λ (view : SessionView). IsPack view.solver.steps view.names c.args.step
     (arc_value c.args.packet.now)) (sym c.self.view_is) c.requires.pack in
-    record { one = one; last = packed_ends c.self.inside.search.steps.items c.self.inside.names.items c.args.step (arc_value c.args.packet.now) pack ∙ is; held = held }
+    record { one = one; last = packed_ends c.self.inside.search.steps c.self.inside.names.items c.args.step (arc_value c.args.packet.now) pack ∙ is; held = held }
 
 -- the numbers that are packed, over the session's fields
 packed : (c : goal.After-deref-in-Ok)
-    → AreNumbersPacked c.self.inside.search.steps.items c.self.inside.names.items c.args.step c.in_ok-numbers.numbers.items
+    → AreNumbersPacked c.self.inside.search.steps c.self.inside.names.items c.args.step c.in_ok-numbers.numbers.items
 packed c =
-    subst (λ (names : List (Option Ref)). AreNumbersPacked c.self.inside.search.steps.items names c.args.step c.in_ok-numbers.numbers.items) c.deref-2.ensures.value
-    (subst (λ (own : List Step). AreNumbersPacked own c.deref-2.result.now c.args.step c.in_ok-numbers.numbers.items) c.deref.ensures.value c.in_ok-numbers.ensures)
+    subst (λ (names : List (Option Ref)). AreNumbersPacked c.self.inside.search.steps names c.args.step c.in_ok-numbers.numbers.items) c.deref.ensures.value
+    c.in_ok-numbers.ensures
 
-there : (c : goal.After-deref-in-Ok) → IsSome (item_at c.self.inside.search.steps.items c.args.step)
+there : (c : goal.After-deref-in-Ok) → IsSome (item_at c.self.inside.search.steps c.args.step)
 there c =
     let (one, is, held) = subst (λ (view : SessionView). (one : Known)
     × IsStep view.solver.steps c.args.step one × Contains view.solver.held one)
     (sym c.self.view_is) c.requires.held in
-    step_there c.self.inside.search.steps.items c.args.step one is
+    step_there c.self.inside.search.steps c.args.step one is
 
 low : (c : goal.After-deref-in-Ok) → (number : ℕ) → Contains c.deref-in-Ok.result.now number
     → (1 ≤ number) × (number ≤ length c.reach.new.names.items)
 low c number has =
     let s = c.self.inside.search in
-    let earlier = ok_look_back (inputs_of s.store.clauses) (shared_by (packets_of s)) s.steps.items
+    let earlier = ok_look_back (inputs_of s.store.clauses) (shared_by (packets_of s)) s.steps
     (sound s c.self.invariant.kept).ok in
-    let within = packed_within s.steps.items c.self.inside.names.items c.args.step c.in_ok-numbers.numbers.items earlier (there c) (packed c) number (subst (λ (xs : List ℕ). Contains xs number) c.deref-in-Ok.ensures.value has) in
+    let within = packed_within s.steps c.self.inside.names.items c.args.step c.in_ok-numbers.numbers.items earlier (there c) (packed c) number (subst (λ (xs : List ℕ). Contains xs number) c.deref-in-Ok.ensures.value has) in
     (within.0, omega (arith, within.1, c.in_ok-reach.ensures.ok.2))
 
 pub name_steps-requires-clause-low : goal.name_steps-requires-clause-low
@@ -79,10 +78,10 @@ invariant_of-self-in-Ok c =
     let pack = subst (λ (view : SessionView). IsPack view.solver.steps view.names c.args.step
     (arc_value c.args.packet.now)) (sym c.self.view_is) c.requires.pack in
     let reached = subst (λ (xs : List
-    (Option Ref)). AreNumbersPacked s.steps.items xs c.args.step numbers) c.deref-2.ensures.value
-    (subst (λ (own : List Step). AreNumbersPacked own c.deref-2.result.now c.args.step numbers) c.deref.ensures.value c.in_ok-numbers.ensures) in
-    let within = item_at-within s.steps.items c.args.step
-    (step_there s.steps.items c.args.step one is) in
+    (Option Ref)). AreNumbersPacked s.steps xs c.args.step numbers) c.deref.ensures.value
+    c.in_ok-numbers.ensures in
+    let within = item_at-within s.steps c.args.step
+    (step_there s.steps c.args.step one is) in
     record {
       kept = e.kept;
       zero = e.depth ∙ c.self.invariant.zero;
@@ -107,8 +106,8 @@ returns-in-Ok-clause-ok c =
       knows = c.in-Ok.ensures.ok;
       numbers = numbers;
       packed = subst (λ (xs : List
-          (Option Ref)). AreNumbersPacked s.steps.items xs c.args.step numbers) c.deref-2.ensures.value
-          (subst (λ (own : List Step). AreNumbersPacked own c.deref-2.result.now c.args.step numbers) c.deref.ensures.value c.in_ok-numbers.ensures);
+          (Option Ref)). AreNumbersPacked s.steps xs c.args.step numbers) c.deref.ensures.value
+          c.in_ok-numbers.ensures;
       names = record {
         named = named.named;
         others = λ number none. named.others number none
