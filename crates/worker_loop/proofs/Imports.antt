@@ -1,13 +1,13 @@
 -- Packets that were read come to be known.
-use Rattle.std.proofs.Common.{◌≡◌, ◌≢◌, ◌∙◌, ◌⊎◌, inl, inr, ℕ, ◌-◌, ◌≤◌, ◌==◌, Bool, true, false, cond, List, [], ◌∷◌, map, length, Option, Some, None, refl, ap, sym, subst, arith}
-use Rattle.std.specs.Prelude.{Contains, IsSome, is_some, slice_get, slice_index_or, option_map, nat_le, filter, Result, Ok, Err, OnOk, OnErr}
+use Rattle.std.proofs.Common.{◌≡◌, ◌≢◌, ◌∙◌, ◌⊎◌, inl, inr, ℕ, ◌-◌, ◌≤◌, ◌==◌, Bool, true, false, cond, List, [], ◌∷◌, ◌++◌, map, length, Option, Some, None, refl, ap, sym, subst, arith, append-nil, append_assoc}
+use Rattle.std.specs.Prelude.{All, Contains, IfSome, IsSome, is_some, slice_get, slice_index_or, option_map, nat_le, filter, Result, Ok, Err, OnOk, OnErr}
 use Rattle.std.proofs.lemmas.Bool.{cases_eq}
 use Rattle.std.proofs.lemmas.Bool.Decides.{nat_tests}
 use Rattle.std.specs.Arc.{arc_value}
 use Rattle.std.specs.declared.sync.Arc.{Arc}
 use Rattle.std.specs.declared.alloc.Global.{Global}
 use Rattle.std.proofs.lemmas.Option.{slice_get-get_or}
-use Rattle.std.proofs.lemmas.List.Elements.{Contains-append_left, Contains-append_right}
+use Rattle.std.proofs.lemmas.List.Elements.{All-append, All-cons, All-nil, Contains-append_left, Contains-append_right}
 use Rattle.sat_base.specs.Lit.{greatest_of, greatest_of_all}
 use Rattle.sat_base.specs.Truth.{Entails}
 use Rattle.sat_base.proofs.Entailment.{grows}
@@ -27,15 +27,15 @@ use Rattle.entry_core.proofs.SharedSteps.{shared_steps_follow}
 use Rattle.session.specs.Solver.{Solver, packet_at}
 use Rattle.session.specs.Solver.{clauses_of as clauses_in}
 use Rattle.session.specs.Fronts.{IsFront}
-use Rattle.session.specs.Sharing.{HasTaken}
-use Rattle.session.proofs.Settled.{same_front, front_twice}
+use Rattle.session.specs.Sharing.{HasTaken, IsHeld}
+use Rattle.session.proofs.Settled.{same_front}
 use Rattle.session.proofs.UpTo.{among_inputs}
 use Rattle.session.specs.Session.{SessionView}
 use Rattle.session.proofs.Names.{place_keeps}
 use Rattle.session.proofs.Takable.{takable_over}
 use Rattle.worker_loop.specs.declared.bench.Bench.{Bench}
 use Rattle.worker_loop.specs.Fits.{Fits, FitsLegal, KnowsOnlyRead, KnowsRead, read_by}
-use Rattle.worker_loop.specs.Importing.{AreTakable, HasImported, KnowsReadUpTo}
+use Rattle.worker_loop.specs.Importing.{AreTakable, HasImported, IsLastOfOne, KnowsReadUpTo}
 use Rattle.worker_loop.specs.Kept.{KeepsLearnt}
 use Rattle.worker_loop.proofs.Bounded.{last_known, read_bounded}
 
@@ -95,9 +95,18 @@ imported_none bench = record {
   bound = refl;
   steps = refl;
   learnt = refl;
-  held = same_front bench.session.solver.held;
+  held = record { more = []; is = sym (append-nil bench.session.solver.held) };
+  lasts = All-nil (IsLastOfOne (read_by bench));
   stay = λ place packet is. is;
   came = λ place packet is. inl is;
+}
+
+-- a clause that is held stays so
+held_on : (old new : Solver) (packet : List Step) → IsFront old.held new.held → IsHeld old packet → IsHeld new packet
+held_on old new packet front was = record {
+  one = was.one;
+  last = was.last;
+  held = subst (λ (all : List Known). Contains all was.one) (sym front.is) (Contains-append_left old.held front.more was.one was.held);
 }
 
 pub imported_twice : (old mid new : Bench) → HasImported old mid → HasImported mid new → HasImported old new
@@ -107,15 +116,25 @@ imported_twice old mid new a b = record {
   bound = b.bound ∙ a.bound;
   steps = b.steps ∙ a.steps;
   learnt = b.learnt ∙ a.learnt;
-  held = front_twice old.session.solver.held mid.session.solver.held new.session.solver.held a.held b.held;
+  held = record {
+    more = a.held.more ++ b.held.more;
+    is = b.held.is ∙ ap (λ (all : List Known). all ++ b.held.more) a.held.is ∙ append_assoc old.session.solver.held a.held.more b.held.more;
+  };
+  lasts = All-append (IsLastOfOne (read_by old)) a.held.more b.held.more a.lasts
+      (subst (λ (all : List (List Step)). All (IsLastOfOne all) b.held.more) (ap read_by a.session) b.lasts);
   stay = λ place packet is. b.stay place packet (a.stay place packet is);
   came = λ place packet is. first place packet (b.came place packet is);
 }
   where
-    first : (place : ℕ) (packet : List Step) → (packet_at mid.session.solver.packets place ≡ Some packet) ⊎ (item_at (read_by mid) place ≡ Some packet)
-        → (packet_at old.session.solver.packets place ≡ Some packet) ⊎ (item_at (read_by old) place ≡ Some packet)
-    first place packet (inl known) = a.came place packet known
-    first place packet (inr read) = inr (ap (λ (all : List (List Step)). item_at all place) (sym (ap read_by a.session)) ∙ read)
+    early : (place : ℕ) (packet : List Step) → (packet_at old.session.solver.packets place ≡ Some packet) ⊎ ((item_at (read_by old) place ≡ Some packet) × IsHeld mid.session.solver packet)
+        → (packet_at old.session.solver.packets place ≡ Some packet) ⊎ ((item_at (read_by old) place ≡ Some packet) × IsHeld new.session.solver packet)
+    early place packet (inl known) = inl known
+    early place packet (inr read) = inr (read.0, held_on mid.session.solver new.session.solver packet b.held read.1)
+
+    first : (place : ℕ) (packet : List Step) → (packet_at mid.session.solver.packets place ≡ Some packet) ⊎ ((item_at (read_by mid) place ≡ Some packet) × IsHeld new.session.solver packet)
+        → (packet_at old.session.solver.packets place ≡ Some packet) ⊎ ((item_at (read_by old) place ≡ Some packet) × IsHeld new.session.solver packet)
+    first place packet (inl known) = early place packet (a.came place packet known)
+    first place packet (inr read) = inr (ap (λ (all : List (List Step)). item_at all place) (sym (ap read_by a.session)) ∙ read.0, read.1)
 
 -- one packet that was read was taken in, or there was no memory
 pub imported_one : {E : Type 0} (result : Result (Unit {0}) E) (old : Bench) (session : SessionView) (place : ℕ) (packet : List Step) → OnOk result ((one : Known) × HasTaken old.session.solver session.solver place packet one)
@@ -128,13 +147,23 @@ imported_one (Ok _) old session place packet (one, taken) err free read = record
   steps = taken.steps;
   learnt = taken.learnt;
   held = record { more = one ∷ []; is = taken.held };
+  lasts = All-cons (IsLastOfOne (read_by old)) one [] (packet, item_at-contains (read_by old) place packet read, taken.last) (All-nil (IsLastOfOne (read_by old)));
   stay = place_keeps old.session.solver.packets session.solver.packets place packet taken.packets free;
   came = λ other known is. at other known is (cases_eq other place);
 }
   where
+    there : IsHeld session.solver packet
+    there = record {
+      one = one;
+      last = taken.last;
+      held = subst (λ (all : List Known). Contains all one) (sym taken.held) (Contains-append_right old.session.solver.held (one ∷ []) one (Contains-here one []));
+    }
+
     at : (other : ℕ) (known : List Step) → packet_at session.solver.packets other ≡ Some known → (other ≡ place) ⊎ (other ≢ place)
-        → (packet_at old.session.solver.packets other ≡ Some known) ⊎ (item_at (read_by old) other ≡ Some known)
-    at other known is (inl here) = inr (ap (item_at (read_by old)) here ∙ read ∙ sym taken.packets.here ∙ ap (packet_at session.solver.packets) (sym here) ∙ is)
+        → (packet_at old.session.solver.packets other ≡ Some known) ⊎ ((item_at (read_by old) other ≡ Some known) × IsHeld session.solver known)
+    at other known is (inl here) =
+        let same : Some packet ≡ Some known = sym taken.packets.here ∙ ap (packet_at session.solver.packets) (sym here) ∙ is in
+        inr (ap (item_at (read_by old)) here ∙ read ∙ same, subst (λ o. IfSome o (IsHeld session.solver)) same there)
     at other known is (inr apart) = inl (sym (taken.packets.elsewhere other apart) ∙ is)
 
 -- What is known of the packets that were read, with one place more.
@@ -184,9 +213,9 @@ none_up_to bench place packet le found low = absurd (omega (arith, le, (item_at-
 pub only_kept : (old new : Bench) → HasImported old new → KnowsOnlyRead old → KnowsOnlyRead new
 only_kept old new imported only place packet is = ap (λ (all : List (List Step)). item_at all place) (ap read_by imported.session) ∙ by_case (imported.came place packet is)
   where
-    by_case : (packet_at old.session.solver.packets place ≡ Some packet) ⊎ (item_at (read_by old) place ≡ Some packet) → item_at (read_by old) place ≡ Some packet
+    by_case : (packet_at old.session.solver.packets place ≡ Some packet) ⊎ ((item_at (read_by old) place ≡ Some packet) × IsHeld new.session.solver packet) → item_at (read_by old) place ≡ Some packet
     by_case (inl known) = only place packet known
-    by_case (inr read) = read
+    by_case (inr read) = read.0
 
 pub takable_kept : (old new : Bench) → HasImported old new → AreTakable old → AreTakable new
 takable_kept old new imported takable place packet found low =

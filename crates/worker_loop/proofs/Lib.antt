@@ -20,6 +20,7 @@ pub mod Passes
 pub mod Holding
 pub mod Slicing
 pub mod Segmented
+pub mod Sliced
 pub mod Served
 pub mod Opening
 pub mod EndedOnce

@@ -1,6 +1,6 @@
 -- A worker on a service, from one hold to the next.
 use Rattle.std.proofs.Common.{◌≡◌, ◌∙◌, inl, inr, ℕ, ◌+◌, ◌≤◌, ◌==◌, ◌||◌, Bool, true, false, not, List, [], ◌∷◌, ◌++◌, length, Option, Some, Result, Ok, Err, refl, ap, sym, subst, arith, append-nil}
-use Rattle.std.specs.Prelude.{All, Contains, IfOk, IfSome, OnErr, nat_le}
+use Rattle.std.specs.Prelude.{All, Contains, IfOk, IfSome, IsSome, OnErr, nat_le}
 use Rattle.std.specs.List.{list_any}
 use Rattle.std.proofs.lemmas.Bool.Decides.{nat_tests}
 use Rattle.std.proofs.lemmas.List.{length_push}
@@ -15,6 +15,7 @@ use Rattle.entry_core.specs.declared.rules.Rules.{Rules}
 use Rattle.entry_core.specs.Attempts.{Attempt, begun_by, attempts, ended_by, ended}
 use Rattle.entry_core.specs.Legal.{IsLegal}
 use Rattle.entry_core.specs.Schedule.{IsNext}
+use Rattle.entry_core.specs.Settled.{settled}
 use Rattle.turn_lock.specs.Entries.{AddsOwn}
 use Rattle.board_core.specs.State.{State, entered}
 use Rattle.board_core.specs.Replies.{IsBegun, IsDone, IsOwn, IsTask, job_at}
@@ -23,17 +24,18 @@ use Rattle.board_core.specs.declared.task.Task.TheVariants as task
 use Rattle.board_core.proofs.Readings.{unread, read_on}
 use Rattle.board_core.proofs.Verdicts.{entry_by}
 use Rattle.board_core.proofs.Looked.{item_place}
-use Rattle.service.specs.Passes.{BoardLock, BoardPass, Keeps, Knows, board_of, caller_of}
-use Rattle.service.proofs.Made.{TookTurn, leaving}
+use Rattle.service.specs.Holds.{Looked, MadeHold}
+use Rattle.service.specs.Passes.{BoardLock, BoardPass, IsReady, Keeps, Knows, board_of, caller_of}
+use Rattle.service.proofs.Made.{TookTurn, leaving, made_entry}
 use Rattle.worker_loop.specs.declared.ends.End.{End}
 use Rattle.worker_loop.specs.Attempts.{EndsBy, HasEnded, IsAt, event_of}
 use Rattle.worker_loop.specs.Ends.{IsEnd}
 use Rattle.worker_loop.specs.Slices.{HasOpen, IsAtWork}
-use Rattle.worker_loop.specs.Work.{HasOnly, HasTaken, MayEnd, MayEndWith, Rests}
+use Rattle.worker_loop.specs.Work.{EndsInHold, HasOnly, HasTaken, MayEnd, MayEndWith, Rests, TakesInHold}
 use Rattle.worker_loop.specs.Working.{IsResting}
 use Rattle.worker_loop.proofs.Ended.{has_ended}
 use Rattle.worker_loop.proofs.Events.{ends_one}
-use Rattle.worker_loop.proofs.Holding.{at_work_after, later_by, seen_is}
+use Rattle.worker_loop.proofs.Holding.{at_work_after, later_by, made_hold, seen_is}
 use Rattle.worker_loop.proofs.Passes.{at_besides, its_number, legal_front, none_of_others, others_more, owned_before, resting_besides}
 use Rattle.worker_loop.proofs.Rested.{begun_at}
 use Rattle.worker_loop.proofs.Slicing.{end_kept, some_weaker}
@@ -147,6 +149,32 @@ wanted_on lock mid new before after (Err e) at wanted err left =
     let rules : after.rules ≡ lock.basis = ap (λ (b : State). b.rules) err ∙ at in
     subst (λ (b : State). (job : ℕ) × IsNext b.rules b.journal job) (sym err ∙ sym (seen_is lock mid new after rules left)) wanted
 
+-- A hold that left the board as it was added nothing.
+looked_by : (lock : BoardLock) (old mid new : BoardPass) (before after : State) → IsAtWork lock old → before.rules ≡ lock.basis → Knows old before → TookTurn old mid before.journal
+    → after ≡ before → IsLegal after.rules after.journal → new ≡ leaving mid after → Looked lock old new
+looked_by lock old mid new before after work at known took same legal left =
+    let none : All (λ (e : Entry). caller_of e ≡ old.number) [] = All-nil (λ (e : Entry). caller_of e ≡ old.number) in
+    let made : MadeHold lock old new before.journal [] =
+    made_hold lock old mid new before after [] work.ready at known took (ap (λ (b : State). b.rules) same ∙ at) (ap (λ (b : State). b.journal) same ∙ sym (append-nil before.journal)) none legal left in
+    subst (λ (shown : List Entry). MadeHold lock old new shown []) (sym (ap (λ (p : BoardPass). p.seen) left ∙ ap (λ (b : State). b.journal) same)) made
+
+pub takes_in_hold : {E : Type 0} (lock : BoardLock) (old mid new : BoardPass) (before after : State) (caller : ℕ) (r : Result Task E) → IsAtWork lock old → before.rules ≡ lock.basis → Knows old before
+    → TookTurn old mid before.journal → caller ≡ mid.number → IfOk r (IsTask before after caller) → IsLegal after.rules after.journal → new ≡ leaving mid after → IfOk r (TakesInHold lock old new)
+takes_in_hold lock old mid new before after caller (Err e) work at known took by ok legal left = tt
+takes_in_hold lock old mid new before after caller (Ok (task.Job job number)) work at known took by ok legal left = (
+  before.journal,
+  made_entry lock old mid new before after caller (event.Began job number) work.ready at known took ok.adds by legal left,
+  subst (λ (r : Rules). IsNext r before.journal job) at ok.next,
+)
+takes_in_hold lock old mid new before after caller (Ok task.Done) work at known took by ok legal left = looked_by lock old mid new before after work at known took ok.0 legal left
+takes_in_hold lock old mid new before after caller (Ok task.Idle) work at known took by ok legal left = looked_by lock old mid new before after work at known took ok.0 legal left
+
+-- The hold in which taking a job failed added nothing.
+pub looked_on : {E : Type 0} (lock : BoardLock) (old mid new : BoardPass) (before after : State) (r : Result Task E) → IsAtWork lock old → before.rules ≡ lock.basis → Knows old before
+    → TookTurn old mid before.journal → OnErr r (after ≡ before) → IsLegal after.rules after.journal → new ≡ leaving mid after → OnErr r (Looked lock old new)
+looked_on lock old mid new before after (Ok told) work at known took err legal left = tt
+looked_on lock old mid new before after (Err e) work at known took err legal left = looked_by lock old mid new before after work at known took err legal left
+
 -- An attempt may end at the board.
 pub open_before : (lock : BoardLock) (old mid : BoardPass) (before : State) (caller number job : ℕ) → IsAtWork lock old → before.rules ≡ lock.basis → Knows old before → TookTurn old mid before.journal → caller ≡ mid.number
     → IsLegal lock.basis before.journal → HasOpen lock old number job → IsAt before caller number job
@@ -224,3 +252,16 @@ rests_when_ended lock old mid new before after caller number given work at known
     let was = legal_before before after caller (ends_more before after caller number (event_of number given) ends) legal in
     let here = open_before lock old mid before caller number may.job work at known took by (subst (λ (r : Rules). IsLegal r before.journal) at was) may.only.at in
     rests_after lock old mid new before after caller number may.job work at known took by may.only (has_ended before after caller number may.job given here ends) legal left
+
+-- The hold in which an attempt ended.
+pub ends_in_hold : (lock : BoardLock) (old mid new : BoardPass) (before after : State) (caller number : ℕ) (happened : Event) → IsReady lock old → before.rules ≡ lock.basis → Knows old before
+    → TookTurn old mid before.journal → caller ≡ mid.number → EndsBy before after caller number happened → IsLegal after.rules after.journal → new ≡ leaving mid after → EndsInHold lock old new number happened
+ends_in_hold lock old mid new before after caller number happened ready at known took by (inl is) legal left =
+    record { shown = before.journal; ended = inl (made_entry lock old mid new before after caller happened ready at known took is by legal left) }
+ends_in_hold lock old mid new before after caller number happened ready at known took by (inr late) legal left = record {
+  shown = before.journal;
+  ended = inr (
+    subst (λ (r : Rules). IsSome (settled r before.journal (job_at before number))) at late.0,
+    made_entry lock old mid new before after caller (event.Dropped number) ready at known took late.1 by legal left,
+  );
+}

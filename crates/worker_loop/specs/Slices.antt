@@ -1,8 +1,8 @@
 -- A slice of an attempt: a round, and then a hold in which the worker shares.
 use Rattle.std.specs.Prelude.{◌≡◌, ◌⊎◌, ℕ, ◌<◌, ◌≤◌, Bool, true, false, Option, None, Some, IsSome}
-use Rattle.std.specs.Prelude.{List, length, All, Contains}
+use Rattle.std.specs.Prelude.{List, ◌++◌, length, All, Contains}
 use Rattle.std.specs.Arc.{arc_value}
-use Rattle.trace_core.specs.Known.{tag_of}
+use Rattle.trace_core.specs.Known.{Known, tag_of}
 use Rattle.trace_core.specs.declared.derivation.Step.{Step}
 use Rattle.trace_trim.specs.Packed.{ends_in}
 use Rattle.entry_core.specs.declared.entries.Entry.{Entry}
@@ -29,6 +29,7 @@ use Rattle.worker_loop.specs.declared.slices.Turn.TheVariants as turn
 use Rattle.worker_loop.specs.Asked.{clauses_at}
 use Rattle.worker_loop.specs.Attempts.{IsAt}
 use Rattle.worker_loop.specs.Fits.{Fits, FitsAttempt}
+use Rattle.worker_loop.specs.Importing.{IsLastOfOne}
 use Rattle.worker_loop.specs.Kept.{KeepsLearnt}
 use Rattle.worker_loop.specs.Rounds.{MakesRound}
 use Rattle.worker_loop.specs.Shared.{IsShared, IsSharing}
@@ -96,7 +97,8 @@ IsTurn rules seen attempt round learnt turn.Going =
 
 -- One round of at most 256 learnt clauses, and never more than the budget leaves. Each clause of at
 -- most 8 literals that it learnt is a packet's clause in what was seen, unless the shared database
--- is full. Nothing that was learnt is lost.
+-- is full. Nothing that was learnt is lost, nothing else is learnt, and what comes to be held behind
+-- the round is packets' clauses.
 pub record IsSlice (rules : Rules) (seen : List Entry) (old new : Bench)
     (attempt attempt' : Attempt) (turn : Turn) : Type 0 where
   pub round : Round
@@ -104,9 +106,22 @@ pub record IsSlice (rules : Rules) (seen : List Entry) (old new : Bench)
   pub made : MakesRound old.session.solver solver attempt attempt' rules.conflicts round
   pub shared : All (IsShared solver.steps seen) made.solves.learns.names
   pub kept : KeepsLearnt solver new.session.solver
+  pub steps : new.session.solver.steps ≡ solver.steps
+  pub learnt : new.session.solver.learnt ≡ solver.learnt
+  pub came : (more : List Known) × (new.session.solver.held ≡ solver.held ++ more)
+      × All (IsLastOfOne (packets seen)) more
   pub comes : IsTurn rules seen attempt' round (clauses_at solver.steps attempt'.learnt.items) turn
 
 -- The session holds the clause of each packet with a tag up to the job.
 abbrev pub HoldsShared : Solver → List Entry → ℕ → Type 0
 HoldsShared solver seen job = (packet : List Step) → Contains (packets seen) packet
     → tag_of (ends_in packet) ≤ job → IsHeld solver packet
+
+-- Nothing is lost that was learnt before the slices, and the attempt lists exactly what was learnt
+-- since, at most as many clauses as the budget allows.
+pub record HasLearntSince (old new : Solver) (before after : Attempt) (budget : ℕ) : Type 0 where
+  pub kept : KeepsLearnt old new
+  pub names : List ℕ
+  pub learnt : new.learnt ≡ old.learnt ++ names
+  pub listed : after.learnt.items ≡ before.learnt.items ++ names
+  pub few : length after.learnt.items ≤ budget

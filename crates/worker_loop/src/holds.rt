@@ -7,12 +7,14 @@ ghost use Rattle.entry_core.specs.Journal.{segments};
 ghost use Rattle.entry_core.specs.Legal.{IsLegal};
 ghost use Rattle.entry_core.specs.Schedule.{IsNext};
 ghost use Rattle.board_core.specs.Replies.{IsJob};
+ghost use Rattle.service.specs.Holds.{Looked};
 ghost use Rattle.service.specs.Passes.{Keeps, board_of};
 ghost use Rattle.worker_loop.specs.Attempts.{EndsBy, event_of};
 ghost use Rattle.worker_loop.specs.Fits.{Fits};
 ghost use Rattle.worker_loop.specs.Segments.{AreSegments};
 ghost use Rattle.worker_loop.specs.Slices.{GoesOnOpen, HasOpen, IsAtWork};
-ghost use Rattle.worker_loop.specs.Work.{HasTaken, MayEnd, MayEndWith, Rests};
+ghost use Rattle.worker_loop.specs.Work.{EndsInHold, HasTaken, MayEnd, MayEndWith, Rests};
+ghost use Rattle.worker_loop.specs.Work.{TakesInHold};
 
 use crate::bench::Bench;
 use crate::ending::end_attempt;
@@ -37,6 +39,8 @@ pub(crate) fn take_once<R: Wait>(
     ensures keeps { Keeps service.now.lock pass.old pass.new }
     ensures taken { IfOk result (HasTaken service.now.lock pass.new) }
     ensures err { OnErr result (Rests service.now.lock pass.new) }
+    ensures hold { IfOk result (TakesInHold service.now.lock pass.old pass.new) }
+    ensures looked { OnErr result (Looked service.now.lock pass.old pass.new) }
     ensures wanted { OnErr result
         ((job : ℕ) × IsNext service.now.lock.basis pass.new.seen job) }
 {
@@ -122,6 +126,7 @@ pub(crate) fn end_once<R: Wait>(
     ensures work { IsAtWork service.now.lock pass.new }
     ensures keeps { Keeps service.now.lock pass.old pass.new }
     ensures rests { Rests service.now.lock pass.new }
+    ensures ended { EndsInHold service.now.lock pass.old pass.new number (event_of number end) }
 {
     let mut held = service.hold(rt, pass);
     end_open(held.value(), pass.number(), number, end);

@@ -6,14 +6,13 @@ ghost use Rattle.entry_core.specs.Right.{AreLiterals};
 ghost use Rattle.worker_loop.specs.Asked.{clause_at, clauses_at};
 
 use entry_core::Clauses;
-use sat_base::Clause;
 use std::alloc::{AllocError, Global};
-use trace_core::Step;
+use step_table::{StepRef, Steps};
 
 /// Copies of the clauses of the own steps of these numbers, counted from 1, in order.
 pub(crate) fn copies_of(
     alloc: Global,
-    steps: &[Step],
+    steps: &Steps,
     numbers: &[u64],
 ) -> Result<Clauses, AllocError>
     requires { All (λ number. IsSome (item_at steps.now number)) numbers.now }
@@ -21,19 +20,19 @@ pub(crate) fn copies_of(
 {
     let mut clauses = Vec::with_capacity(alloc, numbers.len())?;
     for number in numbers {
-        clauses.push(own_clause(steps, *number).copy(alloc)?)?;
+        clauses.push(own_step(steps, *number).clause(alloc)?)?;
     }
     Ok(Clauses::of(clauses))
 }
 
-/// The clause of the step of that number.
-pub(crate) fn own_clause(steps: &[Step], number: u64) -> &Clause
+/// The step of that number.
+pub(crate) fn own_step(steps: &Steps, number: u64) -> StepRef<'_>
     requires { IsSome (item_at steps.now number) }
-    ensures value { result.now ≡ clause_at steps.now number }
-    ensures literals { AreLiterals result.now }
+    ensures clause { result.clause ≡ clause_at steps.now number }
+    ensures literals { AreLiterals result.clause }
 {
-    let clause = &steps[number as usize - 1].clause;
+    let step = steps.step(number as usize - 1);
     // Every clause is of literals.
-    let _ = clause.lits();
-    clause
+    let _ = step.lits();
+    step
 }

@@ -9,7 +9,7 @@ ghost use Rattle.worker_loop.specs.Rounds.{MakesRound};
 
 use crate::attempt::Attempt;
 use crate::bench::Bench;
-use crate::lessons::own_clause;
+use crate::lessons::own_step;
 use session::{Round, Session};
 use std::alloc::AllocError;
 
@@ -54,8 +54,8 @@ fn list_learnt(session: &Session, before: usize, learnt: &mut Vec<u64>) -> Resul
     let steps = session.steps();
     let numbers = &session.learnt()[before..];
     for number in numbers {
-        // The clause is of literals, which is a rule of spent lists.
-        let _ = own_clause(steps, *number);
+        // Its clause is of literals, which is a rule of spent lists.
+        let _ = own_step(steps, *number);
         learnt.push(*number)?;
     }
     Ok(())

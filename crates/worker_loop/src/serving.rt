@@ -1,13 +1,18 @@
 //! A worker on a service.
 
-ghost use Rattle.std.specs.Prelude.{◌≡◌, ℕ, ◌<◌, ◌≤◌, length, IfOk, IfSome, OnErr, OnOk};
+ghost use Rattle.std.specs.Prelude.{◌≡◌, ℕ, ◌<◌, ◌≤◌, [], None, length, IfOk, IfSome, IsSome};
+ghost use Rattle.std.specs.Prelude.{OnErr, OnOk};
 ghost use Rattle.entry_core.specs.Schedule.{IsNext};
+ghost use Rattle.entry_core.specs.Settled.{settled};
 ghost use Rattle.board_core.specs.Replies.{IsDone};
 ghost use Rattle.service.specs.Passes.{Keeps, board_of};
 ghost use Rattle.worker_loop.specs.Ends.{IsEnd};
 ghost use Rattle.worker_loop.specs.Fits.{Fits};
-ghost use Rattle.worker_loop.specs.Slices.{GoesOnOpen, HasOpen, IsAtWork, IsUnderWay};
-ghost use Rattle.worker_loop.specs.Work.{HasOnly, Rests};
+ghost use Rattle.worker_loop.specs.Kept.{KeepsLearnt};
+ghost use Rattle.worker_loop.specs.Rounds.{IsLearntBefore, IsOfLearnt};
+ghost use Rattle.worker_loop.specs.Slices.{GoesOnOpen, HasLearntSince, HasOpen, IsAtWork};
+ghost use Rattle.worker_loop.specs.Slices.{IsUnderWay};
+ghost use Rattle.worker_loop.specs.Work.{HasLookedLast, HasOnly, HasTried, IsPursued, Rests};
 ghost use Rattle.worker_loop.specs.Working.{EndsEachOnce};
 
 use crate::attempt::Attempt;
@@ -47,6 +52,8 @@ pub fn work<R: Threads + Wait + Sync, G: Gate>(
     // The error comes from taking a job alone.
     ensures wanted { OnErr result
         ((job : ℕ) × IsNext service.now.lock.basis pass.new.seen job) }
+    // Whatever it answers, its last hold added nothing.
+    ensures looked { HasLookedLast service.now.lock pass.old pass.new }
 {
     let mut bench = Bench::new(alloc, variant);
     for _ in rt.forever() {
@@ -83,6 +90,7 @@ fn try_job<R: Wait>(
     ensures keeps { Keeps service.now.lock pass.old pass.new }
     ensures rests { Rests service.now.lock pass.new }
     ensures fits { Fits bench.new pass.new.seen }
+    ensures tried { HasTried service.now.lock pass.old pass.new number job bench.old bench.new }
 {
     match pursue_job_on(rt, alloc, service, pass, bench, variant, job, number) {
         Ok(end) => end_once(rt, service, pass, number, end),
@@ -112,6 +120,8 @@ fn pursue_job_on<R: Wait>(
     ensures fits { OnOk result (Fits bench.new pass.new.seen) }
     ensures end { IfOk result
         (λ end. IfSome end (IsEnd service.now.lock.basis pass.new.seen job)) }
+    ensures pursued { IfOk result (IsPursued service.now.lock.basis pass.new.seen job
+        bench.old.session.solver bench.new.session.solver) }
 {
     let mut attempt = start_attempt(rt, alloc, service, pass, bench, variant, job, number)?;
     slice_to_the_end(rt, alloc, service, pass, bench, &mut attempt)
@@ -136,6 +146,11 @@ pub(crate) fn start_attempt<R: Wait>(
     ensures under_way { IfOk result (IsUnderWay service.now.lock pass.new bench.new) }
     ensures left { IfOk result
         (λ attempt. length attempt.learnt.items < service.now.lock.basis.conflicts) }
+    ensures nothing { IfOk result (λ attempt. attempt.learnt.items ≡ []) }
+    ensures learnt { OnOk result (IsLearntBefore bench.old.session.solver job
+        bench.new.session.solver.learnt) }
+    ensures kept { OnOk result (bench.old.session.solver.bound ≤ job
+        → KeepsLearnt bench.old.session.solver bench.new.session.solver) }
 {
     begin_anew_past(alloc, variant, bench, job);
     let needs = look_once(rt, alloc, service, pass, bench, job)?;
@@ -166,6 +181,12 @@ fn slice_to_the_end<R: Wait>(
     ensures fits { OnOk result (Fits bench.new pass.new.seen) }
     ensures end { IfOk result (λ end. IfSome end
         (IsEnd service.now.lock.basis pass.new.seen attempt.old.job)) }
+    ensures learnt { OnOk result (HasLearntSince bench.old.session.solver
+        bench.new.session.solver attempt.old attempt.new service.now.lock.basis.conflicts) }
+    ensures listed { IfOk result
+        (λ end. IfSome end (IsOfLearnt bench.new.session.solver attempt.new)) }
+    ensures overtaken { IfOk result (λ end. end ≡ None
+        → IsSome (settled service.now.lock.basis pass.new.seen attempt.old.job)) }
 {
     'slices: loop {
         match slice(rt, alloc, service, pass, bench, attempt)? {

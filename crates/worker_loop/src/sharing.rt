@@ -7,7 +7,7 @@ ghost use Rattle.worker_loop.specs.Fits.{Fits, read_by};
 ghost use Rattle.worker_loop.specs.Shared.{HasShared, HasSharedMore, IsLesson};
 
 use crate::bench::Bench;
-use crate::lessons::own_clause;
+use crate::lessons::own_step;
 use board_core::{Board, ShareFault};
 use std::alloc::{AllocError, Global};
 use std::sync::Arc;
@@ -88,7 +88,7 @@ fn share_one(
     ensures shared { OnOk result (HasShared board.new bench.old bench.new (number ∷ [])) }
 {
     // What every session keeps is told with its steps.
-    if own_clause(bench.session.steps(), number).lits().len() > SHORT {
+    if own_step(bench.session.steps(), number).lits().len() > SHORT {
         return Ok(());
     }
     let packet = Arc::new(alloc, bench.session.packet(number)?)?;

@@ -16,6 +16,7 @@ use std::test::Fail;
 use trace_core::Step;
 
 mod served;
+mod two_workers;
 
 // Three pigeons in two holes: variable 2p - 1 says that pigeon p sits in the first hole, 2p in the
 // second. The first learnt clause is -2, and then the clauses are refuted without a decision.
@@ -300,8 +301,11 @@ fn a_spent_budget_leaves_what_was_learnt(rt: HostRuntime) -> Result<(), Fail> {
     let [number] = bench.session.learnt() else {
         panic!(rt; "not one learnt clause");
     };
-    let step = bench.session.steps().get(*number as usize - 1);
-    assert!(rt; step.is_some_and(|step| step.clause == *clause));
+    let steps = bench.session.steps();
+    assert!(rt; *number > 0);
+    let index = *number as usize - 1;
+    assert!(rt; index < steps.len());
+    assert_eq!(rt; steps.step(index).lits(), clause.lits());
     Ok(())
 }
 

@@ -112,11 +112,27 @@ fn assert_worked<R: Threads + Wait + Sync + Abort>(
         mut worker,
     } = open(rt, alloc, conflicts)?;
     add_one(rt, alloc, &service, &mut client, rows)?;
-    work(rt, alloc, &service, &mut worker, 0, &NoGate)?;
+    // After want of memory it is called again.
+    if work(rt, alloc, &service, &mut worker, 0, &NoGate).is_err() {
+        work(rt, alloc, &service, &mut worker, 0, &NoGate)?;
+    }
     assert_eq!(rt; service.try_result(&mut client, 1), Ok(outcome));
-    let mut held = service.hold(rt, &mut worker);
-    let checked = assert_shared(alloc, rt, held.value(), shared);
-    service.leave(&mut worker, held);
+    assert_on_board(rt, alloc, &service, &mut worker, shared)
+}
+
+// The packets that a worker sees end in these clauses.
+fn assert_on_board<R: Wait + Abort>(
+    rt: &R,
+    alloc: Global,
+    service: &Service,
+    pass: &mut WorkerPass,
+    rows: &[&[i32]],
+) -> Result<(), AllocError>
+    requires { IsAtWork service.now.lock pass.old }
+{
+    let mut held = service.hold(rt, pass);
+    let checked = assert_shared(alloc, rt, held.value(), rows);
+    service.leave(pass, held);
     checked
 }
 

@@ -2,7 +2,7 @@ use Rattle.std.proofs.Common.{◌∙◌, ap, subst, sym}
 use Rattle.service.specs.Passes.{Knows}
 use Rattle.service.proofs.Made.{TookTurn}
 use Rattle.worker_loop.specs.Attempts.{event_of}
-use Rattle.worker_loop.proofs.Served.{adds_own, ends_more, keeps_on, may_end, rests_when_ended, work_on}
+use Rattle.worker_loop.proofs.Served.{adds_own, ends_in_hold, ends_more, keeps_on, may_end, rests_when_ended, work_on}
 use Rattle.worker_loop.proofs.holds.end_once.Goals as goal
 
 pub leave-requires-clause-added : goal.leave-requires-clause-added
@@ -32,3 +32,9 @@ returns-clause-rests g c =
     rests_when_ended c.args.service.now.lock c.args.pass.now c.hold-held.new.pass c.leave.new.pass c.value.result.now c.end_open.new.board c.number.result c.args.number c.args.end c.requires.work
     (ap (λ b. b.rules) c.value.ensures.value ∙ c.hold-held.ensures.rules) (subst (λ b. Knows c.args.pass.now b) (sym c.value.ensures.value) c.hold-held.ensures.known)
     (subst (λ b. TookTurn c.args.pass.now c.hold-held.new.pass b.journal) (sym c.value.ensures.value) c.hold-held.ensures.pass) c.number.ensures.value c.requires.may c.end_open.ensures c.leave.ensures.legal c.leave.ensures.pass
+
+pub returns-clause-ended : goal.returns-clause-ended
+returns-clause-ended g c =
+    ends_in_hold c.args.service.now.lock c.args.pass.now c.hold-held.new.pass c.leave.new.pass c.value.result.now c.end_open.new.board c.number.result c.args.number (event_of c.args.number c.args.end) c.requires.work.ready
+    (ap (λ b. b.rules) c.value.ensures.value ∙ c.hold-held.ensures.rules) (subst (λ b. Knows c.args.pass.now b) (sym c.value.ensures.value) c.hold-held.ensures.known)
+    (subst (λ b. TookTurn c.args.pass.now c.hold-held.new.pass b.journal) (sym c.value.ensures.value) c.hold-held.ensures.pass) c.number.ensures.value c.end_open.ensures c.leave.ensures.legal c.leave.ensures.pass

@@ -1,7 +1,7 @@
 use Rattle.std.proofs.Common.{◌∙◌, ap, subst, sym}
 use Rattle.service.specs.Passes.{Knows}
 use Rattle.service.proofs.Made.{TookTurn}
-use Rattle.worker_loop.proofs.Served.{adds_own, has_taken, keeps_on, rests_on, took_own, wanted_on, work_on}
+use Rattle.worker_loop.proofs.Served.{adds_own, has_taken, keeps_on, looked_on, rests_on, takes_in_hold, took_own, wanted_on, work_on}
 use Rattle.worker_loop.proofs.holds.take_once.Goals as goal
 
 pub leave-requires-clause-added : goal.leave-requires-clause-added
@@ -36,3 +36,15 @@ pub returns-clause-wanted : goal.returns-clause-wanted
 returns-clause-wanted g c =
     wanted_on c.args.service.now.lock c.hold-held.new.pass c.leave.new.pass c.value.result.now c.take-answer.new.self c.take-answer.result
     (ap (λ b. b.rules) c.value.ensures.value ∙ c.hold-held.ensures.rules) c.take-answer.ensures.wanted c.take-answer.ensures.err c.leave.ensures.pass
+
+pub returns-clause-looked : goal.returns-clause-looked
+returns-clause-looked g c =
+    looked_on c.args.service.now.lock c.args.pass.now c.hold-held.new.pass c.leave.new.pass c.value.result.now c.take-answer.new.self c.take-answer.result c.requires.work
+    (ap (λ b. b.rules) c.value.ensures.value ∙ c.hold-held.ensures.rules) (subst (λ b. Knows c.args.pass.now b) (sym c.value.ensures.value) c.hold-held.ensures.known)
+    (subst (λ b. TookTurn c.args.pass.now c.hold-held.new.pass b.journal) (sym c.value.ensures.value) c.hold-held.ensures.pass) c.take-answer.ensures.err c.leave.ensures.legal c.leave.ensures.pass
+
+pub returns-clause-hold : goal.returns-clause-hold
+returns-clause-hold g c =
+    takes_in_hold c.args.service.now.lock c.args.pass.now c.hold-held.new.pass c.leave.new.pass c.value.result.now c.take-answer.new.self c.number.result c.take-answer.result c.requires.work
+    (ap (λ b. b.rules) c.value.ensures.value ∙ c.hold-held.ensures.rules) (subst (λ b. Knows c.args.pass.now b) (sym c.value.ensures.value) c.hold-held.ensures.known)
+    (subst (λ b. TookTurn c.args.pass.now c.hold-held.new.pass b.journal) (sym c.value.ensures.value) c.hold-held.ensures.pass) c.number.ensures.value c.take-answer.ensures.task c.leave.ensures.legal c.leave.ensures.pass

@@ -1,6 +1,10 @@
-use Rattle.std.proofs.Common.{◌≡◌, ◌+◌, ◌-◌, arith, subst}
+use Rattle.std.proofs.Common.{◌≡◌, ◌∙◌, ◌+◌, ◌-◌, ap, arith, length, subst}
+use Rattle.std.proofs.lemmas.List.{length-map}
+use Rattle.std.specs.Arc.{arc_value}
+use Rattle.worker_loop.specs.declared.bench.Bench.{Bench}
 use Rattle.worker_loop.specs.Importing.{KnowsReadUpTo}
-use Rattle.worker_loop.proofs.Imports.{imported_none, imported_twice, none_up_to, only_kept, takable_kept}
+use Rattle.worker_loop.specs.Fits.{read_by}
+use Rattle.worker_loop.proofs.Imports.{imported_none, imported_twice, known_all, none_up_to, only_kept, takable_kept}
 use Rattle.worker_loop.proofs.importing.import_waiting.Goals as goal
 
 pub loop-place-init : goal.loop-place-init
@@ -20,3 +24,12 @@ loop-place-preserved c =
       known = c.in_ok-import_one.ensures.known (subst (KnowsReadUpTo c.loop-place.bench) before c.loop-place.invariant.known);
       within = omega (arith, c.loop-place-test.true);
     }
+
+pub returns-in_err-import_one-clause-imported : goal.returns-in_err-import_one-clause-imported
+returns-in_err-import_one-clause-imported c = imported_twice c.args.bench.now c.loop-place.bench c.import_one.new.bench c.loop-place.invariant.imported c.import_one.ensures.imported
+
+pub returns-clause-known : goal.returns-clause-known
+returns-clause-known c =
+    let same : length (read_by c.loop-place.bench) ≡ length c.args.bench.now.packets.items =
+    ap (λ (bench : Bench). length (read_by bench)) c.loop-place.invariant.imported.session ∙ length-map c.args.bench.now.packets.items arc_value in
+    known_all c.loop-place.bench c.loop-place.place (omega (arith, same, c.len-count.ensures, c.loop-place-test.false)) c.loop-place.invariant.known

@@ -1,5 +1,5 @@
 use Rattle.std.proofs.Common.{◌≡◌, ◌-◌, ◌<◌, length}
-use Rattle.worker_loop.specs.Slices.{GoesOnOpen, IsUnderWay}
+use Rattle.worker_loop.specs.Slices.{GoesOnOpen, HasLearntSince, IsUnderWay}
 use Rattle.worker_loop.proofs.serving.slice_to_the_end.Given as goal
 
 abbrev pub invariant-slices : goal.invariant-slices
@@ -8,6 +8,7 @@ invariant-slices g l = record {
   under_way : IsUnderWay l.service.lock l.pass l.bench l.attempt;
   left : length l.attempt.learnt.items < l.service.lock.basis.conflicts;
   job : l.attempt.job ≡ l.fn.attempt.job;
+  learnt : HasLearntSince l.fn.bench.session.solver l.bench.session.solver l.fn.attempt l.attempt l.service.lock.basis.conflicts;
   number : l.attempt.number ≡ l.fn.attempt.number;
 }
 

@@ -6,9 +6,12 @@ use Rattle.entry_core.specs.declared.segments.Segment.{Segment}
 use Rattle.entry_core.specs.Journal.{cube_in}
 use Rattle.session.specs.Session.{SessionView}
 use Rattle.worker_loop.specs.Fits.{AreLearnt}
+use Rattle.worker_loop.specs.Kept.{KeepsLearnt}
+use Rattle.worker_loop.specs.Rounds.{IsLearntBefore}
 use Rattle.worker_loop.specs.Segments.{AreSegments}
 use Rattle.worker_loop.proofs.Fitting.{few_read}
-use Rattle.worker_loop.proofs.Imports.{can_be_taken, fits_imported}
+use Rattle.worker_loop.proofs.Imports.{can_be_taken, fits_imported, keeps_imported}
+use Rattle.worker_loop.proofs.Keeping.{kept_twice}
 use Rattle.worker_loop.proofs.Learnt.{learnt_none}
 use Rattle.worker_loop.proofs.Segmented.{loaded_fit}
 use Rattle.worker_loop.proofs.serving.start_attempt.Goals as goal
@@ -66,3 +69,15 @@ returns-clause-under_way g c =
 
 pub returns-clause-on : goal.returns-clause-on
 returns-clause-on g c = c.look_once.ensures.on c.args.number c.requires.open
+
+pub returns-clause-learnt : goal.returns-clause-learnt
+returns-clause-learnt g c =
+    subst (IsLearntBefore c.args.bench.now.session.solver c.args.job)
+    (sym (c.import_waiting.ensures.imported.learnt ∙ c.load_all.ensures.learnt ∙ ap (λ (s : SessionView). s.solver.learnt) c.look_once.ensures.session)) c.begin_anew_past.ensures.learnt
+
+pub returns-clause-kept : goal.returns-clause-kept
+returns-clause-kept g c = λ le.
+    kept_twice c.args.bench.now.session.solver c.load_all.new.bench.session.solver c.import_waiting.new.bench.session.solver
+    (kept_twice c.args.bench.now.session.solver c.look_once.new.bench.session.solver c.load_all.new.bench.session.solver
+    (subst (λ (s : SessionView). KeepsLearnt c.args.bench.now.session.solver s.solver) (sym c.look_once.ensures.session) (c.begin_anew_past.ensures.kept le)) c.load_all.ensures.kept)
+    (keeps_imported c.load_all.new.bench c.import_waiting.new.bench c.import_waiting.ensures.imported)

@@ -17,7 +17,7 @@ pub share-requires-clause-shareable : goal.share-requires-clause-shareable
 share-requires-clause-shareable c =
     let (one, step, held, proper) = c.requires.lesson in
     let clause : c.lits.result.now ≡ one.clause =
-    c.lits.ensures.value ∙ c.own_clause.ensures.value ∙ ap (λ (steps : List Step). clause_at steps c.args.number) c.steps.ensures.value ∙ ap clause_of step in
+    c.lits.ensures.value ∙ c.own_step.ensures.clause ∙ ap (λ (steps : List Step). clause_at steps c.args.number) c.steps.ensures.value ∙ ap clause_of step in
     subst (IsShareable c.args.board.now.journal) (sym (c.in_ok-clone.ensures.cases ∙ c.in_ok-packet-2.ensures.ok))
     (shareable c.args.bench.now c.args.board.now.journal one c.in_ok-packet.field-0 c.requires.fits c.steps.ensures.sound c.requires.read (c.in_ok-packet.ensures.sharable one step) held proper
     (omega (arith, c.if-lits-gt-SHORT.false, ap length clause)))

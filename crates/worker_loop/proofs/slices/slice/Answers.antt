@@ -1,12 +1,15 @@
-use Rattle.std.proofs.Common.{◌≡◌, ◌∙◌, ◌+◌, ◌-◌, ◌<◌, ap, arith, drop, length, min, subst, sym, take}
+use Rattle.std.proofs.Common.{◌≡◌, ◌∙◌, ◌+◌, ◌-◌, ◌<◌, List, ◌++◌, ap, arith, drop, length, min, subst, sym, take}
 use Rattle.std.specs.Prelude.{All, IfSome, is_some}
+use Rattle.trace_core.specs.declared.derivation.Step.{Step}
 use Rattle.entry_core.specs.declared.rules.Rules.{Rules}
 use Rattle.entry_core.specs.Journal.{inputs_of}
 use Rattle.entry_core.specs.Settled.{settled}
+use Rattle.session.specs.Solver.{Solver}
 use Rattle.worker_loop.specs.declared.attempt.Attempt.{Attempt}
 use Rattle.worker_loop.specs.Asked.{IsEndOver, clauses_at}
 use Rattle.worker_loop.specs.Ends.{IsEnd}
 use Rattle.worker_loop.specs.Fits.{read_by}
+use Rattle.worker_loop.specs.Importing.{IsLastOfOne}
 use Rattle.worker_loop.specs.Shared.{IsLesson, IsShared}
 use Rattle.worker_loop.specs.Slices.{HasOpen, IsSlice, IsTurn}
 use Rattle.worker_loop.proofs.Asked.{end_for_job}
@@ -86,6 +89,13 @@ returns-clause-turn g c =
           (names_behind c.args.bench.now.session.solver mid.session.solver c.args.attempt.now after rules.conflicts c.len-before.result c.in_ok-round.round made (let e : c.len-before.result ≡ length c.args.attempt.now.learnt.items = omega (arith, c.len-before.ensures) in e)) numbers;
       kept = kept_twice mid.session.solver c.share_once.new.bench.session.solver c.import_waiting.new.bench.session.solver (kept_sharing mid.session.solver c.share_once.new.bench.session.solver shared.session)
           (keeps_imported c.share_once.new.bench c.import_waiting.new.bench c.import_waiting.ensures.imported);
+      steps = c.import_waiting.ensures.imported.steps ∙ ap (λ (s : Solver). s.steps) shared.session.same;
+      learnt = c.import_waiting.ensures.imported.learnt ∙ ap (λ (s : Solver). s.learnt) shared.session.same;
+      came = (
+        c.import_waiting.ensures.imported.held.more,
+        c.import_waiting.ensures.imported.held.is ∙ ap (λ (s : Solver). s.held ++ c.import_waiting.ensures.imported.held.more) shared.session.same,
+        subst (λ (all : List (List Step)). All (IsLastOfOne all) c.import_waiting.ensures.imported.held.more) shared.read c.import_waiting.ensures.imported.lasts,
+      );
       comes = subst (IsTurn rules later after c.in_ok-round.round (clauses_at mid.session.solver.steps after.learnt.items)) (sym c.turn_of.ensures)
           (is_turn rules later after c.in_ok-round.round mid.session.solver c.in_ok-is_settled.is_settled c.in_ok-end.end found right c.in_ok-end.ensures.of_round c.in_ok-end.ensures.learnt);
     })
