@@ -75,6 +75,7 @@ pub reads_same : (ending : Ending) (left_before left_after : Option (List ℕ))
 reads_same ending left_before left_after ended failed old new same reads = record {
   bytes = reads.bytes;
   gave = reads.gave;
+  no_further = reads.no_further;
   through = record {
     ends = reads.through.ends;
     begun = begun_same (record { bytes = reads.bytes; ended = ended; failed = failed }) old new
@@ -138,6 +139,7 @@ finished trace ending told left_before left_after ended failed writer old new be
     record {
       bytes = reads.bytes;
       gave = reads.gave;
+      no_further = reads.no_further;
       text = took.blocks ++ last_line_of told;
       output = output_of trace ending told reading writer old new took.blocks reads.through done
           which more few took.right;
@@ -164,6 +166,7 @@ finished_in_line trace ending left_before left_after ended failed writer old new
     record {
       bytes = reads.bytes;
       gave = reads.gave;
+      no_further = reads.no_further;
       ending = front.told;
       text = took.blocks ++ last_line_of front.told;
       output = output_of trace ending front.told reading writer old new took.blocks reads.through
@@ -192,6 +195,7 @@ reads_told ending told left_before left_after ended failed board (inr memory) re
     (record {
       bytes = reads.bytes;
       gave = reads.gave;
+      no_further = reads.no_further;
       through = record { ends = tt; begun = reads.through.begun; all = tt };
     })
 
@@ -201,7 +205,12 @@ pub reads_in_part : (ending : Ending) (left_before left_after : Option (List ℕ
     ReadsThrough ending left_before left_after ended failed board →
     ReadsInPart left_before left_after ended failed board
 reads_in_part ending left_before left_after ended failed board reads =
-    record { bytes = reads.bytes; gave = reads.gave; begun = reads.through.begun }
+    record {
+      bytes = reads.bytes;
+      gave = reads.gave;
+      no_further = reads.no_further;
+      begun = reads.through.begun;
+    }
 
 -- where each job is settled, each has its block
 pub answered_if : (ending : Ending) (writer : Writer) (board : State) →
@@ -219,6 +228,7 @@ finished_in_blocks trace left_before left_after ended failed board before after 
     record {
       bytes = reads.bytes;
       gave = reads.gave;
+      no_further = reads.no_further;
       ending = Exhausted;
       text = front.blocks ++ last_line_of Exhausted;
       output = record {
@@ -259,6 +269,7 @@ ran_through given ending left_before left_after ended failed board before after 
       legal = legal;
       bytes = f.bytes;
       gave = f.gave;
+      no_further = f.no_further;
       wrote = inl (record {
         ending = ending;
         text = f.text;
@@ -309,6 +320,7 @@ ran_in_part given left_before left_after ended failed old new before after statu
       legal = legal;
       bytes = f.bytes;
       gave = f.gave;
+      no_further = f.no_further;
       wrote = inr (record {
         ending = f.ending;
         text = f.text;

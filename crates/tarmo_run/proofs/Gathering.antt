@@ -32,7 +32,8 @@ use Rattle.tarmo_run.specs.Reading.{IsNew}
 use Rattle.run_io.proofs.Laws.{appended_nothing}
 use Rattle.tarmo_run.specs.declared.writer.Writer.{Writer}
 use Rattle.tarmo_run.specs.Block.{AreBlocks}
-use Rattle.tarmo_run.specs.Sides.{ComesBack, HasPrinted, IsAdder, IsPrinter, progress_by}
+use Rattle.tarmo_run.specs.Growth.{AllRest}
+use Rattle.tarmo_run.specs.Sides.{ComesBack, HasPrinted, IsAdder, IsPrinter, MayWork, progress_by}
 use Rattle.tarmo_run.specs.Sides.{seen_by}
 use Rattle.tarmo_run.specs.Writer.{HasCounted, HasWritten, TookFront}
 use Rattle.tarmo_run.proofs.Desks.{counted_longer, none_counted}
@@ -167,8 +168,9 @@ read_of_first read first second board may two legal one_knows one other_knows ot
 
 pub left : (crew : Crew) (board : State) → IsWhole crew →
     board.rules ≡ crew.service.lock.basis → IsLegal board.rules board.journal →
-    Knows crew.adder.pass board → Knows crew.printer.pass board → IsLeft crew board
-left crew board whole rules legal first second =
+    Knows crew.adder.pass board → Knows crew.printer.pass board → AllRest board →
+    IsLeft crew board
+left crew board whole rules legal first second rest =
     let two = ap (λ (r : Rules). r.clients) rules ∙ whole.clients in
     record {
       rules = rules;
@@ -177,6 +179,7 @@ left crew board whole rules legal first second =
           (client_adds board.rules) two legal first whole.adder.number second whole.printer.number
           whole.printer.none_added;
       longer = record { rules = rules; more = second.seen.0; is = second.seen.1 };
+      none_open = rest;
       none_cancelled = λ well.
           read_of_first cancelled_by crew.adder.pass crew.printer.pass board
           (client_cancels board.rules) two legal first whole.adder.number second
@@ -188,7 +191,7 @@ left crew board whole rules legal first second =
 
 pub in_order : (lock : BoardLock) (first second : BoardPass) (workers : List BoardPass) →
     IsReady lock first → first.number ≡ 1 → IsReady lock second → second.number ≡ 2 →
-    ((k : ℕ) (d : BoardPass) → k < length workers → IsReady lock (slice_index_or workers k d)
+    ((k : ℕ) (d : BoardPass) → k < length workers → MayWork lock (slice_index_or workers k d)
     × ((slice_index_or workers k d).number ≡ k + 3)) →
     AreIdleInOrder lock (first ∷ second ∷ workers)
 in_order lock first second workers one one_is two two_is rest zero d lt =
@@ -197,7 +200,7 @@ in_order lock first second workers one one_is two two_is rest (suc zero) d lt =
     (two.of_lock, two_is, two.idle)
 in_order lock first second workers one one_is two two_is rest (suc (suc k)) d lt =
     let at = rest k d (omega (arith, lt)) in
-    (at.0.of_lock, omega (arith, at.1), at.0.idle)
+    (at.0.work.ready.of_lock, omega (arith, at.1), at.0.work.ready.idle)
 
 -- ---- new passes
 
@@ -314,9 +317,9 @@ gathered crew clients is two passes new all added pending written inputs well em
         clients = two;
         adder = new_adder lock crew.adder two each.0 added;
         printer = new_printer lock crew.printer two each.1 written inputs;
-        workers = λ k d lt. let at = each.2 k d lt in (
-          new_ready lock 0 (k + 3) (slice_index_or crew.workers.items k d) at,
-          ap (λ (p : BoardPass). p.number) at,
+        workers = λ k d lt. let at = work k d lt in (
+          record { work = at.0; rests = at.1 },
+          ap (λ (p : BoardPass). p.number) (each.2 k d lt),
         );
         passes = passes;
         empty = empty;
@@ -361,8 +364,8 @@ whole_after old new whole service room adder printer len back =
           let within : k < length old.workers.items = omega (arith, lt, len) in
           let at = back k d within in
           let was = whole.workers k d within in (
-            subst (λ (l : BoardLock). IsReady l (slice_index_or new.workers.items k d)) (sym lock)
-                at.ready,
+            subst (λ (l : BoardLock). MayWork l (slice_index_or new.workers.items k d)) (sym lock)
+                (record { work = at.work; rests = at.rests }),
             at.number ∙ was.1,
           )
           );

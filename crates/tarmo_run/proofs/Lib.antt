@@ -8,12 +8,14 @@ mod Closed
 mod Completeness
 mod Desks
 mod Finishing
+mod Fitted
 mod Gathering
 mod Growing
 mod Passing
 mod Promises
 mod Queries
 mod Reached
+mod Resting
 mod Results
 mod Statements
 mod Statuses

@@ -21,7 +21,7 @@ use Rattle.tarmo_run.specs.Body.{Body}
 use Rattle.tarmo_run.specs.Output.{HadNoBoard, IsAnswered, IsEnding, IsRun, IsRunOn, IsSum, Reading}
 use Rattle.tarmo_run.specs.Output.{WroteAll, WroteFront, is_one_so, is_starved, is_undecided}
 use Rattle.tarmo_run.specs.Output.{last_line_of, status_of}
-use Rattle.tarmo_run.specs.Promise.{HaveBudgets, HaveCauses, KeepsPromise}
+use Rattle.tarmo_run.specs.Promise.{HaveBudgets, HaveCauses, HaveEnds, KeepsPromise}
 use Rattle.tarmo_run.proofs.Completeness.{complete_over, not_broken, same_rules_by}
 use Rattle.tarmo_run.proofs.Reached.{unfailing}
 
@@ -150,6 +150,7 @@ module _ {S O : Type 0} (left : S → Option (List ℕ)) (source_faults : S → 
     complete = λ command name text is work told source_same sink_same.
         absurd (neither (accepted line) none is);
     closed = tt;
+    none_open = tt;
     causes = tt;
     budget = tt;
     sink = (λ e. absurd (omega (arith, e)), λ rose. absurd (omega (arith, rose)));
@@ -178,6 +179,7 @@ module _ {S O : Type 0} (left : S → Option (List ℕ)) (source_faults : S → 
         complete = λ command name text is work told source_same sink_same.
             six_of status which (λ e. omega (arith, sink.0 e, sink_same));
         closed = tt;
+        none_open = tt;
         causes = tt;
         budget = tt;
         sink = sink;
@@ -249,7 +251,7 @@ module _ {S O : Type 0} (left : S → Option (List ℕ)) (source_faults : S → 
       IsRun given (left source_old) (left source_new) (ended source_new)
       (nat_lt (source_faults source_old) (source_faults source_new)) (taken out_old)
       (taken out_new) status board →
-      is_closed board.journal ≡ true →
+      is_closed board.journal ≡ true → HaveEnds board →
       (status ≢ 3 → status ≢ 4 → status ≢ 6 → opened source_new name ≡ true) →
       (ended source_new ≡ true → IsEmptyWhereTold (left source_new)) →
       (status ≡ 4) ↔ (sink_faults out_old < sink_faults out_new) →
@@ -258,7 +260,7 @@ module _ {S O : Type 0} (left : S → Option (List ℕ)) (source_faults : S → 
       KeepsPromise left source_faults ended opened taken sink_faults rules line source_old
       source_new out_old out_new (record { status = status; board = Some board })
   over_text_on source_old source_new out_old out_new status board given name causes budgets read
-      work traces limits run closed named whole sink counts =
+      work traces limits run closed ends named whole sink counts =
       let tells = by_output _ _ board (taken out_old) (taken out_new) status run.wrote in
       let some = some_asked rules (accepted line) given read in
       let failing = nat_lt (source_faults source_old) (source_faults source_new) in record {
@@ -286,6 +288,7 @@ module _ {S O : Type 0} (left : S → Option (List ℕ)) (source_faults : S → 
             (complete_over (Some board) given status text _ _ _ _ _ _ told whole
             (unfailing _ _ source_same) (not_broken status _ _ sink sink_same) run);
         closed = closed;
+        none_open = ends;
         causes = caused causes board run.legal;
         budget = budgeted budgets given board limits run.rules run.legal;
         sink = sink;
@@ -313,6 +316,7 @@ module _ {S O : Type 0} (left : S → Option (List ℕ)) (source_faults : S → 
       (ended source_new) (nat_lt (source_faults source_old) (source_faults source_new))
       (taken out_old) (taken out_new) finish.status) →
       IfSome finish.board (λ board. is_closed board.journal ≡ true) →
+      IfSome finish.board HaveEnds →
       (finish.status ≢ 3 → finish.status ≢ 4 → finish.status ≢ 6 →
       opened source_new name ≡ true) →
       (ended source_new ≡ true → IsEmptyWhereTold (left source_new)) →
@@ -322,20 +326,20 @@ module _ {S O : Type 0} (left : S → Option (List ℕ)) (source_faults : S → 
       KeepsPromise left source_faults ended opened taken sink_faults rules line source_old
       source_new out_old out_new finish
   over_text source_old source_new out_old out_new finish given name causes budgets read work
-      traces limits run closed named whole sink counts =
-      on_found finish.board run closed
+      traces limits run closed ends named whole sink counts =
+      on_found finish.board run closed ends
     where
       on_found : (found : Option State) → MatchOption found ⊥ (IsRun given (left source_old)
           (left source_new) (ended source_new)
           (nat_lt (source_faults source_old) (source_faults source_new)) (taken out_old)
           (taken out_new) finish.status) →
-          IfSome found (λ board. is_closed board.journal ≡ true) →
+          IfSome found (λ board. is_closed board.journal ≡ true) → IfSome found HaveEnds →
           KeepsPromise left source_faults ended opened taken sink_faults rules line source_old
           source_new out_old out_new (record { status = finish.status; board = found })
-      on_found None run closed = absurd run
-      on_found (Some board) run closed =
+      on_found None run closed ends = absurd run
+      on_found (Some board) run closed ends =
           over_text_on source_old source_new out_old out_new finish.status board given name
-          causes budgets read work traces limits run closed named whole sink counts
+          causes budgets read work traces limits run closed ends named whole sink counts
 
   over_sum_on : (source : S) (out_old out_new : O) (status : ℕ) (board : State) (given : Rules)
       (number : ℕ) → VerdictsHaveCauses → LargeBudgetsAnswer →
@@ -343,13 +347,14 @@ module _ {S O : Type 0} (left : S → Option (List ℕ)) (source_faults : S → 
       ((command : Asked) → accepted line ≡ Some command → command.work ≡ OfSum number) →
       AreWithinLimits given →
       IsSum number given (taken out_old) (taken out_new) status board →
-      is_closed board.journal ≡ true → (status ≢ 3) × (status ≢ 5) → ended source ≡ false →
+      is_closed board.journal ≡ true → HaveEnds board → (status ≢ 3) × (status ≢ 5) →
+      ended source ≡ false →
       (status ≡ 4) ↔ (sink_faults out_old < sink_faults out_new) →
       sink_faults out_old ≤ sink_faults out_new →
       KeepsPromise left source_faults ended opened taken sink_faults rules line source source
       out_old out_new (record { status = status; board = Some board })
   over_sum_on source out_old out_new status board given number causes budgets read work limits run
-      closed unread unended sink counts =
+      closed ends unread unended sink counts =
       let some = some_asked rules (accepted line) given read in record {
         words = (λ e. absurd (unread.1 e), λ h. absurd (some h.0));
         refused = λ none. absurd (some none);
@@ -369,6 +374,7 @@ module _ {S O : Type 0} (left : S → Option (List ℕ)) (source_faults : S → 
         complete = λ command name text is asked told source_same sink_same.
             absurd (sum_or_text command.work (work command is) asked);
         closed = closed;
+        none_open = ends;
         causes = caused causes board run.legal;
         budget = budgeted budgets given board limits run.rules run.legal;
         sink = sink;
@@ -388,20 +394,21 @@ module _ {S O : Type 0} (left : S → Option (List ℕ)) (source_faults : S → 
       MatchOption finish.board ⊥
       (IsSum number given (taken out_old) (taken out_new) finish.status) →
       IfSome finish.board (λ board. is_closed board.journal ≡ true) →
+      IfSome finish.board HaveEnds →
       (finish.status ≢ 3) × (finish.status ≢ 5) → ended source ≡ false →
       (finish.status ≡ 4) ↔ (sink_faults out_old < sink_faults out_new) →
       sink_faults out_old ≤ sink_faults out_new →
       KeepsPromise left source_faults ended opened taken sink_faults rules line source source
       out_old out_new finish
   over_sum source out_old out_new finish given number causes budgets read work limits run closed
-      unread unended sink counts = on_found finish.board run closed
+      ends unread unended sink counts = on_found finish.board run closed ends
     where
       on_found : (found : Option State) → MatchOption found ⊥
           (IsSum number given (taken out_old) (taken out_new) finish.status) →
-          IfSome found (λ board. is_closed board.journal ≡ true) →
+          IfSome found (λ board. is_closed board.journal ≡ true) → IfSome found HaveEnds →
           KeepsPromise left source_faults ended opened taken sink_faults rules line source source
           out_old out_new (record { status = finish.status; board = found })
-      on_found None run closed = absurd run
-      on_found (Some board) run closed =
+      on_found None run closed ends = absurd run
+      on_found (Some board) run closed ends =
           over_sum_on source out_old out_new finish.status board given number causes budgets read
-          work limits run closed unread unended sink counts
+          work limits run closed ends unread unended sink counts

@@ -29,7 +29,7 @@ use Rattle.tarmo_run.specs.declared.writer.Writer.{Writer}
 use Rattle.tarmo_run.specs.Client.{Adds, AddsFirst, clauses_behind, clauses_read, queries_behind}
 use Rattle.tarmo_run.specs.Client.{queries_on}
 use Rattle.tarmo_run.specs.Growth.{IsLonger}
-use Rattle.tarmo_run.specs.Output.{queries_in, unnumbered}
+use Rattle.tarmo_run.specs.Output.{ReadsNoFurther, longest_piece, queries_in, unnumbered}
 use Rattle.tarmo_run.specs.Reading.{AsksFirst, IsCaughtUp, IsNew, IsThrough, Progress}
 use Rattle.tarmo_run.specs.Reading.{ReadsInPart, ReadsThrough, StopsBy}
 use Rattle.tarmo_run.specs.Block.{AreBlocks}
@@ -309,6 +309,37 @@ nothing_reached reader progress left read fresh =
       up = caught_none reader progress read fresh;
     }
 
+-- ---- nothing is read behind a wrong place but the last piece
+
+reads_nothing : ReadsNoFurther []
+reads_nothing =
+    record { front = []; piece = []; whole = refl; right = nothing_wrong; short = omega arith }
+
+-- what was read has no wrong place
+reads_caught : (reader : ReaderState) (progress : Progress) (bytes : List ℕ) →
+    IsCaughtUp reader progress bytes → ReadsNoFurther bytes
+reads_caught reader progress bytes up = record {
+  front = bytes;
+  piece = [];
+  whole = sym (append-nil bytes);
+  right = up.right;
+  short = omega arith;
+}
+
+-- one piece more may have one
+reads_piece : (reader : ReaderState) (progress : Progress) (bytes piece : List ℕ) →
+    IsCaughtUp reader progress bytes → length piece ≤ longest_piece →
+    ReadsNoFurther (bytes ++ piece)
+reads_piece reader progress bytes piece up short =
+    record { front = bytes; piece = piece; whole = refl; right = up.right; short = short }
+
+-- a read gives no more than its buffer takes
+pub short_piece : (count old room : ℕ) (buffer : List ℕ) → count ≤ old → length buffer ≡ old →
+    old ≡ room → room ≤ longest_piece → length (take count buffer) ≤ longest_piece
+short_piece count old room buffer within same room_is few =
+    let all : count ≤ length buffer = omega (arith, within, same) in
+    omega (arith, within, room_is, few, length-take-le count buffer all)
+
 -- the source failed before anything was read
 pub through_unstarted : (progress : Progress) (left_before left_after : Option (List ℕ))
     (ended failed : Bool) → left_after ≡ left_before → ended ≡ false → failed ≡ true →
@@ -316,6 +347,7 @@ pub through_unstarted : (progress : Progress) (left_before left_after : Option (
 through_unstarted progress left_before left_after ended failed same unended failing fresh = record {
   bytes = [];
   gave = sym same ∙ sym (followed_by_nothing left_after);
+  no_further = reads_nothing;
   through = rw unended (record {
     ends = (failing, nothing_wrong);
     begun = record {
@@ -338,6 +370,7 @@ through_unread reader progress left_before left_now left_after ended failed same
     reached = record {
       bytes = reached.bytes;
       gave = reached.gave ∙ ap (followed_by reached.bytes) (sym same);
+      no_further = reads_caught reader progress reached.bytes reached.up;
       through = rw unended (record {
         ends = (failing, reached.up.right);
         begun = record {
@@ -405,6 +438,7 @@ rest_reads ending reader old new count buffer left_before left_middle left_after
       bytes = reached.bytes;
       gave = rest_gave count buffer reached.bytes left_before left_middle left_after none gave
           reached.gave;
+      no_further = reads_caught reader old reached.bytes reached.up;
       through = rw end (through reached.bytes failed unfailed reached.up);
     }
 
@@ -440,35 +474,39 @@ rest_in_part (Err e) reader old new count buffer left_before left_middle left_af
       bytes = reached.bytes;
       gave = rest_gave count buffer reached.bytes left_before left_middle left_after none gave
           reached.gave;
+      no_further = reads_caught reader old reached.bytes reached.up;
       begun = rw end (begun reached.bytes failed reached.up);
     }
 
 pub piece_broke : (reader : ReaderState) (old new : Progress) (piece : List ℕ)
     (left_before left_middle left_after : Option (List ℕ)) (ended failed : Bool) →
-    ended ≡ false → left_middle ≡ followed_by piece left_after →
+    ended ≡ false → length piece ≤ longest_piece → left_middle ≡ followed_by piece left_after →
     Reached reader old left_before left_middle →
     ((bytes : List ℕ) (failed : Bool) → IsCaughtUp reader old bytes →
     AsksFirst (record { bytes = bytes ++ piece; ended = false; failed = failed }) new.board) →
     ReadsInPart left_before left_after ended failed new.board
-piece_broke reader old new piece left_before left_middle left_after ended failed unended gave
-    reached begun = record {
+piece_broke reader old new piece left_before left_middle left_after ended failed unended short
+    gave reached begun = record {
       bytes = reached.bytes ++ piece;
       gave = read_on left_before left_middle left_after reached.bytes piece reached.gave gave;
+      no_further = reads_piece reader old reached.bytes piece reached.up short;
       begun = rw unended (begun reached.bytes failed reached.up);
     }
 
 pub piece_ended : (ending : Ending) (reader : ReaderState) (old new : Progress) (piece : List ℕ)
     (left_before left_middle left_after : Option (List ℕ)) (ended failed : Bool) →
-    ended ≡ false → failed ≡ false → left_middle ≡ followed_by piece left_after →
+    ended ≡ false → failed ≡ false → length piece ≤ longest_piece →
+    left_middle ≡ followed_by piece left_after →
     Reached reader old left_before left_middle →
     ((bytes : List ℕ) (failed : Bool) → failed ≡ false → IsCaughtUp reader old bytes →
     IsThrough ending (record { bytes = bytes ++ piece; ended = false; failed = failed })
     new.board) →
     ReadsThrough ending left_before left_after ended failed new.board
 piece_ended ending reader old new piece left_before left_middle left_after ended failed unended
-    unfailed gave reached through = record {
+    unfailed short gave reached through = record {
       bytes = reached.bytes ++ piece;
       gave = read_on left_before left_middle left_after reached.bytes piece reached.gave gave;
+      no_further = reads_piece reader old reached.bytes piece reached.up short;
       through = rw unended (through reached.bytes failed unfailed reached.up);
     }
 
@@ -515,6 +553,7 @@ pub through_unbuffered : (progress : Progress) (left : Option (List ℕ)) (ended
 through_unbuffered progress left ended failed unended fresh = record {
   bytes = [];
   gave = sym (followed_by_nothing left);
+  no_further = reads_nothing;
   through = rw unended (record {
     ends = tt;
     begun = record {

@@ -9,8 +9,8 @@ use Rattle.tarmo_run.specs.declared.endings.Ending.{Ending}
 use Rattle.tarmo_run.specs.declared.endings.Ending.TheVariants.{Complete, Exhausted}
 use Rattle.entry_core.specs.Journal.{jobs}
 use Rattle.tarmo_run.specs.Body.{OfBlocks}
-use Rattle.tarmo_run.specs.Output.{AreSettled, IsFirstOfSummary, IsOutput, UnlessExhausted}
-use Rattle.tarmo_run.specs.Output.{last_line_of}
+use Rattle.tarmo_run.specs.Output.{AreSettled, IsFirstOfSummary, IsOutput, ReadsNoFurther}
+use Rattle.tarmo_run.specs.Output.{UnlessExhausted, last_line_of}
 use Rattle.tarmo_run.specs.Reading.{AsksFirst}
 
 -- a front of the last line was taken: of this ending, or of want of memory
@@ -25,6 +25,7 @@ pub record Finished (trace : Bool) (ending : Ending) (left_before left_after : O
     (ended failed : Bool) (board : State) (before after : Option (List ℕ)) : Type 0 where
   pub bytes : List ℕ
   pub gave : left_before ≡ followed_by bytes left_after
+  pub no_further : ReadsNoFurther bytes
   pub text : List ℕ
   pub output : IsOutput (OfBlocks trace) ending
       (record { bytes = bytes; ended = ended; failed = failed }) board text
@@ -38,6 +39,7 @@ pub record FinishedInPart (trace : Bool) (left_before left_after : Option (List 
     (ended failed : Bool) (board : State) (before after : Option (List ℕ)) : Type 0 where
   pub bytes : List ℕ
   pub gave : left_before ≡ followed_by bytes left_after
+  pub no_further : ReadsNoFurther bytes
   pub ending : Ending
   pub text : List ℕ
   pub output : IsOutput (OfBlocks trace) ending

@@ -17,8 +17,16 @@ pub record HasNoJobMore (old new : State) : Type 0 where
   pub longer : IsLonger old new
   pub segments : segments new.journal ≡ segments old.journal
 
+-- nobody has an open attempt
+abbrev pub AllRest : State → Type 0
+AllRest board = (caller : ℕ) → IsResting board caller
+
+-- who has no open attempt before has none after
+abbrev pub StayResting : State → State → Type 0
+StayResting old new = (caller : ℕ) → IsResting old caller → IsResting new caller
+
 -- the board with entries behind its own that cancel no job, and begin and end no attempt
 pub record HasJobsMore (old new : State) : Type 0 where
   pub longer : IsLonger old new
   pub none_cancelled : cancelled new.journal ≡ cancelled old.journal
-  pub resting : (caller : ℕ) → IsResting old caller → IsResting new caller
+  pub resting : StayResting old new

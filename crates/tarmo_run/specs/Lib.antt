@@ -15,3 +15,4 @@ pub mod Crew
 pub mod Task
 pub mod Promise
 pub mod Agreement
+pub mod Fitting

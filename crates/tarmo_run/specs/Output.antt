@@ -47,6 +47,19 @@ pub record Reading : Type 0 where
   pub ended : Bool
   pub failed : Bool
 
+-- the most bytes that one read asks for
+abbrev pub longest_piece : ℕ
+longest_piece = 65536
+
+-- Nothing is read behind the first wrong place but the piece in which it stands: the bytes that
+-- were read are a front without a wrong place, and what one read gave.
+pub record ReadsNoFurther (bytes : List ℕ) : Type 0 where
+  pub front : List ℕ
+  pub piece : List ℕ
+  pub whole : bytes ≡ front ++ piece
+  pub right : wrong front false ≡ None
+  pub short : length piece ≤ longest_piece
+
 -- The jobs of the journal put these queries, in order: the clauses that each job has, and its cube.
 pub record PutQueries (journal : List Entry) (queries : List Job) : Type 0 where
   pub count : jobs journal ≡ length queries
@@ -204,6 +217,7 @@ pub record IsRun (given : Rules) (left_before left_after : Option (List ℕ))
   pub legal : IsLegal board.rules board.journal
   pub bytes : List ℕ
   pub gave : left_before ≡ followed_by bytes left_after
+  pub no_further : ReadsNoFurther bytes
   pub wrote : WroteAll (OfBlocks given.traces)
       (record { bytes = bytes; ended = ended; failed = failed })
       board taken_before taken_after status

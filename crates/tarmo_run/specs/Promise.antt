@@ -1,11 +1,12 @@
 -- What a run promises, on one thread or on many.
 use Rattle.std.specs.Prelude.{◌≡◌, ◌≢◌, ◌<◌, ◌≤◌, ◌⊎◌, ◌↔◌, ◌^◌, ℕ, Bool, true, false, nat_lt}
-use Rattle.std.specs.Prelude.{Option, Some, None, IfSome, MatchOption, List}
+use Rattle.std.specs.Prelude.{◌==◌, Option, Some, None, IfSome, MatchOption, List, count_by}
 use Rattle.sat_base.specs.Lit.{variables}
 use Rattle.run_io.specs.Bytes.{IsEmptyWhereTold}
 use Rattle.entry_core.specs.declared.answers.Verdict.{Verdict}
 use Rattle.entry_core.specs.declared.answers.Verdict.TheVariants as verdict
 use Rattle.entry_core.specs.declared.rules.Rules.{Rules}
+use Rattle.entry_core.specs.Attempts.{Attempt, attempt, ended}
 use Rattle.entry_core.specs.Causes.{HasCause}
 use Rattle.entry_core.specs.Journal.{clauses_of, cube_of, is_closed}
 use Rattle.entry_core.specs.Settled.{settled}
@@ -19,6 +20,11 @@ abbrev pub HaveCauses : State → Type 0
 HaveCauses board = (job : ℕ) (given : Verdict) →
     settled board.rules board.journal job ≡ Some given →
     HasCause board.rules board.journal job given
+
+-- each attempt that was begun has one entry that ends it
+abbrev pub HaveEnds : State → Type 0
+HaveEnds board = (number : ℕ) (begun : Attempt) → attempt board.journal number ≡ Some begun →
+    count_by (λ other. other == number) (ended board.journal) ≡ 1
 
 -- no job is given up under a budget above the number of clauses over its variables
 abbrev pub HaveBudgets : State → Type 0
@@ -68,8 +74,9 @@ pub record KeepsPromise {S O : Type 0} (left : S → Option (List ℕ)) (source_
       MatchOption finish.board (finish.status ≡ 6)
       (λ board. IsAnswered command.trace text (taken out_old) (taken out_new)
       finish.status board ⊎ (finish.status ≡ 6))
-  -- The board takes no more jobs, and each verdict on it has its cause.
+  -- The board takes no more jobs, no attempt on it is open, and each verdict has its cause.
   pub closed : IfSome finish.board (λ board. is_closed board.journal ≡ true)
+  pub none_open : IfSome finish.board HaveEnds
   pub causes : IfSome finish.board HaveCauses
   pub budget : IfSome finish.board HaveBudgets
   -- Status 4 is a fault of the sink, and status 3 one of the source.

@@ -16,8 +16,8 @@ use Rattle.tarmo_run.specs.declared.client.Client.{Client}
 use Rattle.tarmo_run.specs.Client.{Adds, AddsFirst, clauses_read, queries_on}
 use Rattle.icnf_gen.specs.Drawn.{generated}
 use Rattle.icnf_text.specs.Printed.{printed}
-use Rattle.tarmo_run.specs.Output.{IsEnding, Reading, UnlessExhausted, queries_in, reading_of}
-use Rattle.tarmo_run.specs.Output.{unnumbered}
+use Rattle.tarmo_run.specs.Output.{IsEnding, Reading, ReadsNoFurther, UnlessExhausted, queries_in}
+use Rattle.tarmo_run.specs.Output.{reading_of, unnumbered}
 
 -- how far a client has come: what it has read, and the board with its jobs
 pub record Progress : Type 0 where
@@ -66,6 +66,7 @@ pub record ReadsThrough (ending : Ending) (left_before left_after : Option (List
     (ended failed : Bool) (board : State) : Type 0 where
   pub bytes : List ℕ
   pub gave : left_before ≡ followed_by bytes left_after
+  pub no_further : ReadsNoFurther bytes
   pub through : IsThrough ending (record { bytes = bytes; ended = ended; failed = failed }) board
 
 -- the run was broken off
@@ -73,6 +74,7 @@ pub record ReadsInPart (left_before left_after : Option (List ℕ)) (ended faile
     (board : State) : Type 0 where
   pub bytes : List ℕ
   pub gave : left_before ≡ followed_by bytes left_after
+  pub no_further : ReadsNoFurther bytes
   pub begun : AsksFirst (record { bytes = bytes; ended = ended; failed = failed }) board
 
 -- All queries of the text that a number stands for are jobs; where memory ran out, the first ones.

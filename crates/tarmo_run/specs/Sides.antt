@@ -84,7 +84,8 @@ pub record MayWork (lock : BoardLock) (pass : BoardPass) : Type 0 where
   pub work : IsAtWork lock pass
   pub rests : Rests lock pass
 
--- it comes back with its number
+-- it comes back with its number, and with no open attempt
 pub record ComesBack (lock : BoardLock) (old new : BoardPass) : Type 0 where
-  pub ready : IsReady lock new
+  pub work : IsAtWork lock new
+  pub rests : Rests lock new
   pub number : new.number ≡ old.number

@@ -10,9 +10,10 @@ ghost use Rattle.entry_core.specs.Legal.{IsLegal};
 ghost use Rattle.tarmo_run.specs.Desk.{IsAlone, IsBetweenPieces, IsFresh};
 ghost use Rattle.tarmo_run.specs.Output.{IsRun, IsSum, UnlessCutShort, last_line_of};
 ghost use Rattle.tarmo_run.specs.Asking.{rules_of};
-ghost use Rattle.tarmo_run.specs.Promise.{KeepsPromise};
+ghost use Rattle.tarmo_run.specs.Promise.{HaveEnds, KeepsPromise};
 ghost use Rattle.tarmo_run.specs.Ended.{Finished, FinishedInPart};
 ghost use Rattle.tarmo_run.specs.declared.endings.Ending.TheVariants as endings;
+ghost use Rattle.worker_loop.specs.Working.{IsResting};
 
 use crate::asking::Task;
 use crate::client::{close_input, give_up};
@@ -39,8 +40,9 @@ pub struct Finish {
     /// 6 where memory ran out, for the run or for a job; 3 where the source failed; 2 where the
     /// text has a wrong place; 1 where a job was given up or cancelled; 0 otherwise.
     pub status: u8,
-    /// The board with the text's jobs and their verdicts, which takes no more jobs. None where the
-    /// words aren't accepted, or where there was no memory for them or for a board.
+    /// The board with the text's jobs and their verdicts, which takes no more jobs and has no open
+    /// attempt. None where the words aren't accepted, or where there was no memory for them or for
+    /// a board.
     pub board: Option<Board>,
 }
 
@@ -135,6 +137,7 @@ fn run_over<S: Source, O: Sink>(
         (nat_lt (S.faults source.old) (S.faults source.new))
         (O.taken out.old) (O.taken out.new) result.status) }
     ensures closed { IfSome result.board (λ board. is_closed board.journal ≡ true) }
+    ensures none_open { IfSome result.board HaveEnds }
     ensures opened { result.status ≢ 3 → result.status ≢ 4 → result.status ≢ 6 →
         S.opened source.new (option_map (λ bytes. bytes.now) file.entry) ≡ true }
     ensures whole { S.ended source.new ≡ true → IsEmptyWhereTold (S.left source.new) }
@@ -178,6 +181,7 @@ fn solve<S: Source, O: Sink>(
         (nat_lt (S.faults source.old) (S.faults source.new)) desk.new.board
         (O.taken out.old) (O.taken out.new)) }
     ensures closed { OnOk result (is_closed desk.new.board.journal ≡ true) }
+    ensures resting { IsResting desk.new.board 2 }
     ensures opened { IfOk result (λ ending. UnlessCutShort ending
         (S.opened source.new (option_map (λ bytes. bytes.now) file.entry) ≡ true)) }
     ensures whole { S.ended source.new ≡ true → IsEmptyWhereTold (S.left source.new) }
@@ -198,6 +202,7 @@ fn sum_over<O: Sink>(alloc: Global, rules: Rules, number: u64, board: Board, out
     ensures run { MatchOption result.board ⊥
         (IsSum number rules (O.taken out.old) (O.taken out.new) result.status) }
     ensures closed { IfSome result.board (λ board. is_closed board.journal ≡ true) }
+    ensures none_open { IfSome result.board HaveEnds }
     ensures unread { (result.status ≢ 3) × (result.status ≢ 5) }
     ensures sink { (result.status ≡ 4) ↔ (O.faults out.old < O.faults out.new) }
     ensures counts { O.faults out.old ≤ O.faults out.new }

@@ -7,7 +7,7 @@ ghost use Rattle.entry_core.specs.Legal.{IsClient};
 ghost use Rattle.entry_core.specs.Settled.{cancelled, settled};
 ghost use Rattle.board_core.specs.Replies.{HasVerdict, IsJob};
 ghost use Rattle.tarmo_run.specs.Client.{Adds, AddsFirst, clauses_read, queries_on};
-ghost use Rattle.tarmo_run.specs.Growth.{HasJobsMore, HasNoJobMore};
+ghost use Rattle.tarmo_run.specs.Growth.{HasJobsMore, HasNoJobMore, StayResting};
 ghost use Rattle.tarmo_run.specs.Output.{AreSettled};
 
 use board_core::{AskFault, Board};
@@ -115,6 +115,7 @@ impl Client {
 pub(crate) fn close_input(board: &mut Board)
     requires client { IsClient board.old.rules 1 }
     ensures more { HasNoJobMore board.old board.new }
+    ensures resting { StayResting board.old board.new }
     ensures cancelled { cancelled board.new.journal ≡ cancelled board.old.journal }
     ensures closed { is_closed board.new.journal ≡ true }
 {
@@ -126,6 +127,7 @@ pub(crate) fn close_input(board: &mut Board)
 pub(crate) fn give_up(board: &mut Board)
     requires client { IsClient board.old.rules 1 }
     ensures more { HasNoJobMore board.old board.new }
+    ensures resting { StayResting board.old board.new }
     ensures settled { AreSettled board.new }
     ensures closed { is_closed board.new.journal ≡ true }
 {
@@ -137,6 +139,7 @@ pub(crate) fn give_up(board: &mut Board)
 fn cancel_all(board: &mut Board)
     requires client { IsClient board.old.rules 1 }
     ensures more { HasNoJobMore board.old board.new }
+    ensures resting { StayResting board.old board.new }
     ensures settled { AreSettled board.new }
 {
     let jobs = board.jobs();

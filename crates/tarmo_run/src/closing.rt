@@ -7,7 +7,7 @@ ghost use Rattle.entry_core.specs.Legal.{IsClient};
 ghost use Rattle.entry_core.specs.Settled.{cancelled, settled};
 ghost use Rattle.run_io.specs.Fault.{HasCause};
 ghost use Rattle.tarmo_run.specs.Ended.{Finished, FinishedInPart};
-ghost use Rattle.tarmo_run.specs.Growth.{HasNoJobMore};
+ghost use Rattle.tarmo_run.specs.Growth.{HasNoJobMore, StayResting};
 ghost use Rattle.tarmo_run.specs.Output.{AreSettled, UnlessExhausted};
 ghost use Rattle.tarmo_run.specs.Reading.{ReadsThrough};
 ghost use Rattle.tarmo_run.specs.Writer.{Breaks, HasAllBlocks, HasCounted, HasWritten, Writes};
@@ -33,6 +33,7 @@ pub(crate) fn finish_text<O: Sink>(
     requires client { IsClient board.old.rules 1 }
     requires counted { HasCounted writer board.old }
     ensures more { HasNoJobMore board.old board.new }
+    ensures resting { StayResting board.old board.new }
     ensures finished { IfOk result (λ told. (before left_before left_after : Option (List ℕ))
         (ended failed : Bool) →
         ReadsThrough ending left_before left_after ended failed board.old →

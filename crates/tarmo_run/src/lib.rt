@@ -7,7 +7,6 @@
 #![tactic(auto)]
 
 mod adder;
-mod agreement;
 mod alone;
 mod asking;
 mod client;
@@ -15,6 +14,7 @@ mod closing;
 mod crew;
 mod desk;
 mod endings;
+mod laws;
 mod meeting;
 mod pieces;
 mod printer;
@@ -27,7 +27,7 @@ mod tests;
 mod top;
 mod writer;
 
-pub use agreement::runs_agree;
 pub use alone::{Finish, WORDS_REFUSED, run_alone};
 pub use endings::{NO_MEMORY, UNDECIDED};
+pub use laws::{runs_agree, texts_fit_on_boards};
 pub use top::run;

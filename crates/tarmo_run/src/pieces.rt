@@ -8,7 +8,7 @@ ghost use Rattle.run_io.specs.Fault.{HasCause, last_count};
 ghost use Rattle.tarmo_run.specs.Client.{Adds, AddsFirst};
 ghost use Rattle.tarmo_run.specs.Desk.{HasAnswered, IsBetweenPieces, IsFresh, Shows, ShowsFront};
 ghost use Rattle.tarmo_run.specs.Desk.{progress_of};
-ghost use Rattle.tarmo_run.specs.Output.{UnlessCutShort};
+ghost use Rattle.tarmo_run.specs.Output.{UnlessCutShort, longest_piece};
 ghost use Rattle.tarmo_run.specs.Reading.{AsksFirst, IsCaughtUp, IsThrough, ReadsInPart};
 ghost use Rattle.tarmo_run.specs.Reading.{ReadsThrough, StopsBy, ending_behind};
 
@@ -84,6 +84,7 @@ fn answer_pieces<S: Source, O: Sink>(
     requires fresh { IsFresh desk.old }
     requires between { IsBetweenPieces desk.old }
     requires room { 0 < length buffer.old }
+    requires short { length buffer.old ≤ longest_piece }
     requires source_faults { S.faults source.old < last_count }
     requires unread { S.ended source.old ≡ false }
     ensures between { IsBetweenPieces desk.new }

@@ -8,7 +8,7 @@ ghost use Rattle.icnf_text.specs.Printed.{printed};
 ghost use Rattle.run_io.specs.Bytes.{IsEmptyWhereTold};
 ghost use Rattle.run_io.specs.Fault.{last_count};
 ghost use Rattle.tarmo_run.specs.Client.{Adds, queries_on};
-ghost use Rattle.tarmo_run.specs.Output.{UnlessCutShort, queries_in, reading_of};
+ghost use Rattle.tarmo_run.specs.Output.{UnlessCutShort, longest_piece, queries_in, reading_of};
 ghost use Rattle.tarmo_run.specs.Reading.{AsksFirst, IsCaughtUp, IsNew, IsThrough, ReadsThrough};
 ghost use Rattle.tarmo_run.specs.Reading.{ReadsSum, StopsBy};
 ghost use Rattle.tarmo_run.specs.Sides.{HasReadText, IsAdder, own_of, progress_by};
@@ -95,6 +95,7 @@ fn read_pieces<R: Wait, S: Source>(
     requires adder { IsAdder service.now.lock adder.old }
     requires new { IsNew (progress_by service.now.lock adder.old) }
     requires room { 0 < length buffer.old }
+    requires short { length buffer.old ≤ longest_piece }
     requires source_faults { S.faults source.old < last_count }
     requires unread { S.ended source.old ≡ false }
     ensures adder { IsAdder service.now.lock adder.new }

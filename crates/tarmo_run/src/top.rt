@@ -8,7 +8,7 @@ ghost use Rattle.entry_core.specs.Journal.{is_closed};
 ghost use Rattle.tarmo_run.specs.Crew.{IsGathered};
 ghost use Rattle.tarmo_run.specs.Output.{IsRun, IsSum};
 ghost use Rattle.tarmo_run.specs.Asking.{shared_rules_of};
-ghost use Rattle.tarmo_run.specs.Promise.{KeepsPromise};
+ghost use Rattle.tarmo_run.specs.Promise.{HaveEnds, KeepsPromise};
 
 use crate::alone::{Finish, SINK_FAILED, WORDS_REFUSED, finish_without_memory, hand_over};
 use crate::asking::Task;
@@ -95,6 +95,7 @@ fn run_text<R: Threads + Wait + Sync, S: Source, O: Sink + Send, G: Gate>(
         (nat_lt (S.faults source.old) (S.faults source.new))
         (O.taken out.old) (O.taken out.new) result.status) }
     ensures closed { IfSome result.board (λ board. is_closed board.journal ≡ true) }
+    ensures none_open { IfSome result.board HaveEnds }
     ensures opened { result.status ≢ 3 → result.status ≢ 4 → result.status ≢ 6 →
         S.opened source.new (option_map (λ bytes. bytes.now) file.entry) ≡ true }
     ensures whole { S.ended source.new ≡ true → IsEmptyWhereTold (S.left source.new) }
@@ -141,6 +142,7 @@ fn run_sum<R: Threads + Wait + Sync, O: Sink, G: Gate>(
     ensures run { MatchOption result.board ⊥
         (IsSum number rules (O.taken out.old) (O.taken out.new) result.status) }
     ensures closed { IfSome result.board (λ board. is_closed board.journal ≡ true) }
+    ensures none_open { IfSome result.board HaveEnds }
     ensures unread { (result.status ≢ 3) × (result.status ≢ 5) }
     ensures sink { (result.status ≡ 4) ↔ (O.faults out.old < O.faults out.new) }
     ensures counts { O.faults out.old ≤ O.faults out.new }

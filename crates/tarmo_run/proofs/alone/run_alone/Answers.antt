@@ -16,7 +16,7 @@ returns-in-Text g c =
     accepted (map string_bytes c.args.words.now) ≡ Some command → command.work ≡ input_of work)
     c.in-Text.is c.in-Ok.ensures.work)
     (λ command. refl) c.in-Ok.ensures.limits c.run_over.ensures.run
-    c.run_over.ensures.closed
+    c.run_over.ensures.closed c.run_over.ensures.none_open
     (λ three four six. subst (λ (name : Option (List ℕ)).
     g.S.Source.opened c.run_over.new.source name ≡ true) c.as_deref.ensures.value
     (c.run_over.ensures.opened three four six))

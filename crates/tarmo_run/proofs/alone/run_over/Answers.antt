@@ -3,6 +3,7 @@ use Rattle.entry_core.specs.declared.rules.Rules.{Rules}
 use Rattle.board_core.specs.State.{State}
 use Rattle.tarmo_run.specs.Desk.{IsAlone}
 use Rattle.tarmo_run.proofs.Finishing.{ran_in_part, ran_through}
+use Rattle.tarmo_run.proofs.Resting.{ends_alone}
 use Rattle.tarmo_run.proofs.Uncut.{done_by_status}
 use Rattle.tarmo_run.proofs.alone.run_over.Goals as goal
 
@@ -35,6 +36,25 @@ returns-in-Ok-clause-closed g c = rw c.give_back.ensures.parts c.in-Ok.ensures.c
 
 pub returns-in-Err-clause-closed : goal.returns-in-Err-clause-closed
 returns-in-Err-clause-closed g c = rw c.give_back-in-Err.ensures.parts c.give_up.ensures.closed
+
+pub returns-in-Ok-clause-none_open : goal.returns-in-Ok-clause-none_open
+returns-in-Ok-clause-none_open g c =
+    let rules : c.new-desk.result.board.rules ≡ c.args.rules =
+    ap (λ (board : State). board.rules) c.new-desk.ensures.board ∙ c.requires.rules in
+    rw c.give_back.ensures.parts
+    (ends_alone c.solve.new.desk.board c.give_back.ensures.legal
+    (subst IsAlone (sym (c.solve.ensures.rules ∙ rules)) c.requires.alone)
+    c.solve.ensures.resting)
+
+pub returns-in-Err-clause-none_open : goal.returns-in-Err-clause-none_open
+returns-in-Err-clause-none_open g c =
+    let rules : c.new-desk.result.board.rules ≡ c.args.rules =
+    ap (λ (board : State). board.rules) c.new-desk.ensures.board ∙ c.requires.rules in
+    rw c.give_back-in-Err.ensures.parts
+    (ends_alone c.give_up.new.board c.give_back-in-Err.ensures.legal
+    (subst IsAlone (sym (c.give_up.ensures.more.longer.rules ∙ c.solve.ensures.rules ∙ rules))
+    c.requires.alone)
+    (c.give_up.ensures.resting 2 c.solve.ensures.resting))
 
 pub returns-in-Ok-clause-opened : goal.returns-in-Ok-clause-opened
 returns-in-Ok-clause-opened g c =

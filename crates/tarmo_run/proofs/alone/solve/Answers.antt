@@ -43,6 +43,13 @@ returns-clause-front g c =
 pub returns-clause-closed : goal.returns-clause-closed
 returns-clause-closed g c = on_ok_always c.close.result c.close_input.ensures.closed
 
+pub returns-in_err-ending-clause-resting : goal.returns-in_err-ending-clause-resting
+returns-in_err-ending-clause-resting g c = c.show_blocks.ensures.between.resting
+
+pub returns-clause-resting : goal.returns-clause-resting
+returns-clause-resting g c =
+    c.close_input.ensures.resting 2 c.show_blocks.ensures.between.resting
+
 pub returns-clause-opened : goal.returns-clause-opened
 returns-clause-opened g c =
     IfOk-weaker c.close.result

@@ -2,6 +2,7 @@ use Rattle.std.proofs.Common.{◌≡◌, ◌∙◌, ap, arith, refl, subst, sym}
 use Rattle.entry_core.specs.declared.rules.Rules.{Rules}
 use Rattle.board_core.specs.State.{State}
 use Rattle.tarmo_run.specs.Desk.{IsAlone}
+use Rattle.tarmo_run.proofs.Resting.{ends_alone}
 use Rattle.tarmo_run.proofs.Sums.{sum_statuses, summed, summed_in_part}
 use Rattle.tarmo_run.proofs.alone.sum_over.Goals as goal
 
@@ -46,6 +47,23 @@ returns-in-Err-clause-run g c =
     })
     c.close_input.ensures.more c.give_up.ensures.more c.give_up.ensures.settled
     c.in-Err.ensures.front)
+
+pub returns-in-Ok-clause-none_open : goal.returns-in-Ok-clause-none_open
+returns-in-Ok-clause-none_open g c =
+    rw c.give_back.ensures.parts
+    (ends_alone c.close_input.new.board c.give_back.ensures.legal
+    (subst IsAlone (sym c.close_input.ensures.more.longer.rules)
+    c.settle_sum-settled.ensures.between.alone)
+    (c.close_input.ensures.resting 2 c.settle_sum-settled.ensures.between.resting))
+
+pub returns-in-Err-clause-none_open : goal.returns-in-Err-clause-none_open
+returns-in-Err-clause-none_open g c =
+    rw c.give_back-in-Err.ensures.parts
+    (ends_alone c.give_up.new.board c.give_back-in-Err.ensures.legal
+    (subst IsAlone (sym (c.give_up.ensures.more.longer.rules
+    ∙ c.close_input.ensures.more.longer.rules)) c.settle_sum-settled.ensures.between.alone)
+    (c.give_up.ensures.resting 2
+    (c.close_input.ensures.resting 2 c.settle_sum-settled.ensures.between.resting)))
 
 pub give_up-requires : goal.give_up-requires
 give_up-requires g c = record {

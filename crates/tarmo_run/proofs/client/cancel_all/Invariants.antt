@@ -1,11 +1,12 @@
 use Rattle.std.proofs.Common.{◌≤◌, ◌-◌}
-use Rattle.tarmo_run.specs.Growth.{HasNoJobMore}
+use Rattle.tarmo_run.specs.Growth.{HasNoJobMore, StayResting}
 use Rattle.tarmo_run.proofs.Cancelled.{AreSettledTo}
 use Rattle.tarmo_run.proofs.client.cancel_all.Given as goal
 
 abbrev pub invariant-loop-job : goal.invariant-loop-job
 invariant-loop-job l = record {
   more : HasNoJobMore l.fn.board l.board;
+  resting : StayResting l.fn.board l.board;
   settled : AreSettledTo l.board l.job;
   within : l.job ≤ l.jobs;
 }

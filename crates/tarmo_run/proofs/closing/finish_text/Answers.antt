@@ -51,6 +51,12 @@ returns-clause-front g c =
 pub returns-clause-closed : goal.returns-clause-closed
 returns-clause-closed g c = on_ok_always c.close.result c.close_input.ensures.closed
 
+pub returns-in_err-ending-clause-resting : goal.returns-in_err-ending-clause-resting
+returns-in_err-ending-clause-resting g c = λ caller rests. rests
+
+pub returns-clause-resting : goal.returns-clause-resting
+returns-clause-resting g c = c.close_input.ensures.resting
+
 pub returns-clause-which : goal.returns-clause-which
 returns-clause-which g c =
     IfOk-weaker c.close.result

@@ -3,7 +3,8 @@ use Rattle.tarmo_run.specs.Desk.{progress_of}
 use Rattle.tarmo_run.proofs.Desks.{all_at_first, new_at_first}
 use Rattle.tarmo_run.proofs.Reached.{ends_here, failing, goes_on, nearer, nothing_reached}
 use Rattle.tarmo_run.proofs.Reached.{piece_broke, piece_ended, piece_reached, rest_in_part}
-use Rattle.tarmo_run.proofs.Reached.{rest_through, still_unended, through_unread, unfailing}
+use Rattle.tarmo_run.proofs.Reached.{rest_through, short_piece, still_unended}
+use Rattle.tarmo_run.proofs.Reached.{through_unread, unfailing}
 use Rattle.run_io.proofs.Always.{after_err}
 use Rattle.tarmo_run.proofs.pieces.answer_pieces.Goals as goal
 
@@ -58,6 +59,8 @@ returns-in_err-ending-clause-in_part g c =
     (piece_broke _ (progress_of c.loop-count.desk) (progress_of c.answer_piece.new.desk) _ _ _ _ _ _
     (goes_on _ _ c.in-Ok.count _ c.in-Ok.ensures.ended c.loop-count.invariant.unended
     c.if-count-eq0.false)
+    (short_piece c.in-Ok.count _ _ c.read.new.buf c.in-Ok.ensures.count c.read.auto.buf
+    c.loop-count.invariant.room c.requires.short)
     c.in-Ok.ensures.bytes c.loop-count.invariant.reached c.in_err-ending.ensures.in_part)
 
 pub returns-in-Some-clause-through : goal.returns-in-Some-clause-through
@@ -67,6 +70,8 @@ returns-in-Some-clause-through g c =
     (goes_on _ _ c.in-Ok.count _ c.in-Ok.ensures.ended c.loop-count.invariant.unended
     c.if-count-eq0.false)
     (unfailing _ _ (c.in-Ok.ensures.cause.ok ∙ c.loop-count.invariant.source_faults))
+    (short_piece c.in-Ok.count _ _ c.read.new.buf c.in-Ok.ensures.count c.read.auto.buf
+    c.loop-count.invariant.room c.requires.short)
     c.in-Ok.ensures.bytes c.loop-count.invariant.reached
     (rw c.in-Some.is at c.in_ok-ending.ensures.through)
 

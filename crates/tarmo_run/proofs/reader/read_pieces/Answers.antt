@@ -1,8 +1,8 @@
 use Rattle.std.proofs.Common.{◌∙◌, ℕ, ◌<◌, ◌≤◌, length, refl, subst, sym, rules}
 use Rattle.tarmo_run.specs.Sides.{progress_by}
 use Rattle.tarmo_run.proofs.Reached.{ends_here, failing, goes_on, nearer, nothing_reached}
-use Rattle.tarmo_run.proofs.Reached.{piece_ended, piece_reached, rest_reads, still_unended}
-use Rattle.tarmo_run.proofs.Reached.{through_unread, unfailing}
+use Rattle.tarmo_run.proofs.Reached.{piece_ended, piece_reached, rest_reads, short_piece}
+use Rattle.tarmo_run.proofs.Reached.{still_unended, through_unread, unfailing}
 use Rattle.tarmo_run.proofs.reader.read_pieces.Goals as goal
 
 pub loop-count-init : goal.loop-count-init
@@ -44,6 +44,8 @@ returns-in-Some-clause-through g c =
     (goes_on _ _ c.in-Ok.count _ c.in-Ok.ensures.ended c.loop-count.invariant.unended
     c.if-count-eq0.false)
     (unfailing _ _ (c.in-Ok.ensures.cause.ok ∙ c.loop-count.invariant.source_faults))
+    (short_piece c.in-Ok.count _ _ c.read.new.buf c.in-Ok.ensures.count c.read.auto.buf
+    c.loop-count.invariant.room c.requires.short)
     c.in-Ok.ensures.bytes c.loop-count.invariant.reached
     (rw c.in-Some.is at c.add_piece.ensures.through)
 

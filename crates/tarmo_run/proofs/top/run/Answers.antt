@@ -21,7 +21,7 @@ returns-in-Text g c =
     c.in-Text.is c.in-Ok.ensures.work)
     (λ command. refl)
     (subst AreWithinLimits (sym c.shared_rules-rules.ensures) c.in-Ok.ensures.few)
-    c.run_text.ensures.run c.run_text.ensures.closed
+    c.run_text.ensures.run c.run_text.ensures.closed c.run_text.ensures.none_open
     (λ three four six. subst (λ (name : Option (List ℕ)).
     g.S.Source.opened c.run_text.new.source name ≡ true) c.as_deref.ensures.value
     (c.run_text.ensures.opened three four six))

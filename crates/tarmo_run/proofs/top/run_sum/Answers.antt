@@ -2,6 +2,7 @@ use Rattle.std.proofs.Common.{◌∙◌, ap, arith, refl}
 use Rattle.service.specs.Passes.{BoardLock}
 use Rattle.tarmo_run.specs.declared.printer.Printer.{Printer}
 use Rattle.tarmo_run.specs.Sides.{own_of}
+use Rattle.tarmo_run.proofs.Resting.{ends_all}
 use Rattle.tarmo_run.proofs.Sums.{asked_by, sum_statuses, summed, summed_in_part}
 use Rattle.tarmo_run.proofs.top.run_sum.Goals as goal
 
@@ -40,6 +41,20 @@ returns-in-Err-clause-run g c =
     c.settled_if-settled.ensures c.solve_sum-added.ensures.sum left.jobs)
     c.close_input.ensures.more c.give_up.ensures.more c.give_up.ensures.settled
     c.in-Err.ensures.front)
+
+pub returns-in-Ok-clause-none_open : goal.returns-in-Ok-clause-none_open
+returns-in-Ok-clause-none_open g c =
+    rw c.hand_over.ensures.parts
+    (ends_all c.close_input.new.board c.hand_over.ensures.legal
+    (λ caller. c.close_input.ensures.resting caller
+    (c.disband-board.ensures.board.none_open caller)))
+
+pub returns-in-Err-clause-none_open : goal.returns-in-Err-clause-none_open
+returns-in-Err-clause-none_open g c =
+    rw c.hand_over-in-Err.ensures.parts
+    (ends_all c.give_up.new.board c.hand_over-in-Err.ensures.legal
+    (λ caller. c.give_up.ensures.resting caller
+    (c.close_input.ensures.resting caller (c.disband-board.ensures.board.none_open caller))))
 
 pub returns-in-Ok-clause-unread : goal.returns-in-Ok-clause-unread
 returns-in-Ok-clause-unread g c =

@@ -3,6 +3,7 @@ use Rattle.service.specs.Passes.{BoardLock}
 use Rattle.tarmo_run.proofs.Finishing.{finished_in_blocks, ran_in_part, ran_through}
 use Rattle.tarmo_run.proofs.Finishing.{reads_in_part, reads_same}
 use Rattle.tarmo_run.proofs.Gathering.{left_counted, left_front, left_written, none_printed}
+use Rattle.tarmo_run.proofs.Resting.{ends_all}
 use Rattle.tarmo_run.proofs.Uncut.{done_by_status}
 use Rattle.tarmo_run.proofs.top.run_text.Goals as goal
 
@@ -73,6 +74,26 @@ returns-in-Err-clause-run g c =
     (reads_same _ _ _ _ _ _ _ left.jobs c.solve_text-ending.ensures.read.through)
     (left_written _ crew _ _ _ _ _ c.solve_text-ending.ensures.whole left
     c.disband-board.ensures.writer well printed)))
+
+pub returns-then-failed-clause-none_open : goal.returns-then-failed-clause-none_open
+returns-then-failed-clause-none_open g c =
+    rw c.hand_over.ensures.parts
+    (ends_all c.give_up.new.board c.hand_over.ensures.legal
+    (λ caller. c.give_up.ensures.resting caller (c.disband-board.ensures.board.none_open caller)))
+
+pub returns-in-Ok-clause-none_open : goal.returns-in-Ok-clause-none_open
+returns-in-Ok-clause-none_open g c =
+    rw c.hand_over-in-Ok.ensures.parts
+    (ends_all c.finish_text.new.board c.hand_over-in-Ok.ensures.legal
+    (λ caller. c.finish_text.ensures.resting caller
+    (c.disband-board.ensures.board.none_open caller)))
+
+pub returns-in-Err-clause-none_open : goal.returns-in-Err-clause-none_open
+returns-in-Err-clause-none_open g c =
+    rw c.hand_over-in-Err.ensures.parts
+    (ends_all c.give_up-in-Err.new.board c.hand_over-in-Err.ensures.legal
+    (λ caller. c.give_up-in-Err.ensures.resting caller
+    (c.finish_text.ensures.resting caller (c.disband-board.ensures.board.none_open caller))))
 
 pub returns-then-failed-clause-opened : goal.returns-then-failed-clause-opened
 returns-then-failed-clause-opened g c =

@@ -3,6 +3,7 @@ use Rattle.std.specs.Prelude.{All}
 use Rattle.std.proofs.lemmas.List.Elements.{All-head, All-tail}
 use Rattle.service.specs.Passes.{BoardPass, Knows}
 use Rattle.tarmo_run.proofs.Gathering.{left}
+use Rattle.tarmo_run.proofs.Resting.{all_rest}
 use Rattle.tarmo_run.proofs.crew.Crew.disband.Goals as goal
 
 pub returns-clause-board : goal.returns-clause-board
@@ -21,3 +22,6 @@ returns-clause-board c =
     left c.args.self board c.requires.whole c.shut-board.ensures.rules c.shut-board.ensures.legal
     (All-head Kind one rest all)
     (All-head Kind two c.args.self.workers.items (All-tail Kind one rest all))
+    (all_rest c.args.self board c.requires.whole c.shut-board.ensures.rules
+    c.shut-board.ensures.legal c.shut-board.ensures.callers
+    (All-tail Kind two c.args.self.workers.items (All-tail Kind one rest all)))

@@ -1,5 +1,5 @@
 use Rattle.tarmo_run.proofs.Agreeing.{runs_agree}
-use Rattle.tarmo_run.proofs.agreement.runs_agree.Goals as goal
+use Rattle.tarmo_run.proofs.laws.runs_agree.Goals as goal
 
 pub returns : goal.returns
 returns c = runs_agree
