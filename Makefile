@@ -6,7 +6,8 @@ JOBS ?= $(shell nproc)
 
 .PHONY: run try prove install examples test bench profile
 .PHONY: bench-reader bench-checker bench-trace bench-learning bench-board bench-lock bench-service
-.PHONY: bench-sums bench-layouts bench-holds hostile wanting races
+.PHONY: bench-sums bench-layouts bench-holds bench-workers bench-dialogue
+.PHONY: bench-instructions hostile wanting races
 
 # Proves what isn't proved yet, crates side by side, and says which; then builds the program and
 # solves FILE.
@@ -53,6 +54,18 @@ bench-layouts:
 # The twenty functions of the built program that take most instructions on FILE, by valgrind.
 profile:
 	bench/callgrind.py $(FILE)
+
+# What more workers bring, and what a question through a pipe costs, with the built program.
+bench-workers:
+	bench/workers.py
+
+bench-dialogue:
+	bench/dialogue.py
+
+# Instructions for each literal that propagation forces, beside MiniSat, by valgrind.
+bench-instructions:
+	cd crates/tarmo_bench && rt run > /dev/null
+	bench/instructions.py
 
 # Which share of its time a worker of the built program spends in holds of the board, by perf.
 bench-holds:
