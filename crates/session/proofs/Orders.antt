@@ -1,7 +1,7 @@
 -- The order of decisions while a search goes on.
 use Rattle.std.proofs.Common.{◌≡◌, ◌∙◌, ℕ, ◌+◌, ◌-◌, ◌<◌, ◌≤◌, List, [], ◌∷◌, ◌++◌, length, take, drop}
-use Rattle.std.proofs.Common.{ap, sym, subst, inl, inr, arith, get_or}
-use Rattle.std.specs.Prelude.{◌⊎◌, Contains, IfSome, IfNone, Option, None, Some}
+use Rattle.std.proofs.Common.{ap, sym, subst, inl, inr, arith, get_or, true, eqb-true}
+use Rattle.std.specs.Prelude.{◌==◌, ◌⊎◌, Contains, IfSome, IfNone, Option, None, Some}
 use Rattle.std.proofs.lemmas.Bool.{cases_lt, cases_eq}
 use Rattle.std.proofs.lemmas.List.{take-append-drop, length_push, get_or_append_left}
 use Rattle.std.proofs.lemmas.List.{get_or_push, get_or-map, take_more}
@@ -9,13 +9,14 @@ use Rattle.std.proofs.lemmas.List.Elements.{All-weaker, Contains-append_right}
 use Rattle.sat_base.proofs.Members.{Contains-here}
 use Rattle.sat_base.specs.Lit.{variable, opposite}
 use Rattle.sat_base.proofs.Opposite.{variable-opposite}
-use Rattle.trail_core.specs.Trail.{Entry, TrailView, StandsAt, IsFree, no_entry, entry_at, lits_of}
+use Rattle.trail_core.specs.Trail.{Entry, TrailView, IsTrail, StandsAt, IsFree, no_entry, entry_at, lits_of}
 use Rattle.trail_core.specs.Trail.{up_to}
 use Rattle.trail_core.specs.UnderTrail.{IsUnassigned, HasGrown}
 use Rattle.pick_core.specs.Assigned.{IsAssigned, AreAllAssigned, IsNearestFree}
 use Rattle.pick_core.specs.Queue.{QueueView, IsQueue}
 use Rattle.pick_core.specs.Scores.{ScoresView, FreeWait, Waits}
-use Rattle.pick_core.proofs.Choice.{stays_assigned, free_before}
+use Rattle.trail_core.proofs.Complete.{none_free}
+use Rattle.pick_core.proofs.Choice.{stays_assigned, free_before, is_assigned_where_not_free}
 use Rattle.session.specs.declared.ranking.Ranking.{Ranking}
 use Rattle.session.specs.declared.ranking.Ranking.TheVariants.{Scores, Queue}
 use Rattle.session.specs.declared.order.Order.{Order}
@@ -78,14 +79,27 @@ free_literal entries var lit free is = record {
         let (place, lt, here) = place_of_true entries x has in
         free.none place (record { within = lt; is = ap variable here ∙ same })
 
-pub all_assigned_literals : (entries : List Entry) (vars : ℕ) → AreAllAssigned entries vars
-    → AreAssigned (lits_of entries) vars
-all_assigned_literals entries vars all lit is within free =
-    let some = is.not_zero in
-    let a = all (variable lit) (omega (arith, some)) within in
+assigned_literal : (entries : List Entry) (lit : ℕ) → IsAssigned entries (variable lit)
+    → IsUnassigned (lits_of entries) lit → ⊥
+assigned_literal entries lit a free =
     (same_variable (lits_of entries) lit (entry_at entries a.place).lit
     (sym a.stands.is) free).not_true
     (record { stands = true_at entries a.place a.stands.within })
+
+pub all_assigned_literals : (entries : List Entry) (vars : ℕ) → AreAllAssigned entries vars
+    → AreAssigned (lits_of entries) vars
+all_assigned_literals entries vars all lit is within =
+    let some = is.not_zero in
+    assigned_literal entries lit (all (variable lit) (omega (arith, some)) within)
+
+-- as many literals are true as variables are reserved
+pub complete_literals : (trail : TrailView) (vars : ℕ) → IsTrail trail → vars ≤ trail.vars
+    → (length trail.entries == trail.vars) ≡ true → AreAssigned (lits_of trail.entries) vars
+complete_literals trail vars is reserved full lit lit_is within =
+    let some = lit_is.not_zero in
+    assigned_literal trail.entries lit (is_assigned_where_not_free trail.entries (variable lit)
+    (none_free trail is (eqb-true (length trail.entries) trail.vars full) (variable lit)
+    (omega (arith, some)) (omega (arith, within, reserved))))
 
 -- Literals are taken back.
 free_push : (entries : List Entry) (last : Entry) (var : ℕ) → (variable last.lit ≡ var → ⊥)

@@ -28,7 +28,9 @@ pub(crate) enum Move {
 
 /// The cube's first literal that isn't true comes first, as the next decision where it is
 /// unassigned. Then it is a free variable of the order, and where none is left, the trail is a
-/// model. The cursor passes only literals that are true, before and after.
+/// model: that all are assigned is seen at once, without a look through the order. The cursor
+/// passes only literals that are true, before and after.
+#[tactic(auto, using(crate::proofs::Orders::complete_literals))]
 pub(crate) fn next_move(trail: &Trail, cursor: &mut Cursor, order: &mut Order, cube: &Cube) -> Move
     requires passed { PassesTrue cube.now (lits_of trail.now.entries) cursor.old }
     requires order { IsOrder order.old }
@@ -47,6 +49,9 @@ pub(crate) fn next_move(trail: &Trail, cursor: &mut Cursor, order: &mut Order, c
             Some(_) => Move::Blame(lit),
             None => Move::Decide(lit),
         };
+    }
+    if trail.is_complete() {
+        return Move::Stop;
     }
     match order.next(trail) {
         Some(lit) => Move::Decide(lit),

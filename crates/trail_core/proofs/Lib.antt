@@ -4,3 +4,4 @@ pub mod Pop
 pub mod Grow
 pub mod Levels
 pub mod Laid
+pub mod Complete

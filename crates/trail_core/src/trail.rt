@@ -1,6 +1,6 @@
 //! The trail.
 
-ghost use Rattle.std.specs.Prelude.{◌≡◌, ◌≢◌, ℕ, ◌+◌, ◌-◌, ◌<◌, ◌≤◌, min, max, List, [], ◌∷◌, ◌++◌};
+ghost use Rattle.std.specs.Prelude.{◌≡◌, ◌≢◌, ℕ, ◌==◌, ◌+◌, ◌-◌, ◌<◌, ◌≤◌, min, max, List, [], ◌∷◌, ◌++◌};
 ghost use Rattle.std.specs.Prelude.{length, take, All, Option, Some, None, IfSome, IfNone, OnOk};
 ghost use Rattle.std.specs.Prelude.{OnErr, IsTrue, not};
 ghost use Rattle.sat_base.specs.Lit.{variable};
@@ -196,6 +196,14 @@ impl Trail {
         ensures trail { IsTrail self.now }
     {
         self.looked
+    }
+
+    /// Whether as many literals are true as variables are reserved, so that no variable is free.
+    pub fn is_complete(&self) -> bool
+        ensures value { result ≡ (length self.now.entries == self.now.vars) }
+        ensures trail { IsTrail self.now }
+    {
+        self.count == self.vars as usize
     }
 
     /// Sets how many of the first literals propagation has looked at. Takes no memory.

@@ -59,3 +59,23 @@ fn literals_come_and_go_by_levels(rt: HostRuntime) -> Result<(), Fail> {
     assert_eq!(rt; trail.value(literal(&rt, -1)), Some(false));
     Ok(())
 }
+
+#[test]
+fn a_trail_is_complete_once_each_variable_is_assigned(rt: HostRuntime) -> Result<(), Fail> {
+    let mut trail = Trail::new(rt.alloc());
+    assert!(rt; trail.is_complete());
+    trail.reserve(7)?;
+    trail.open_level();
+    for number in [4, -1, 6, 2, -5, 3] {
+        assert!(rt; !trail.is_complete(), "before {number}");
+        assign(&rt, &mut trail, number, None);
+    }
+    assert!(rt; !trail.is_complete());
+    let last = literal(&rt, -7);
+    assert_eq!(rt; trail.value(last), None);
+    trail.assign(last, None);
+    assert!(rt; trail.is_complete());
+    trail.back_to(0);
+    assert!(rt; !trail.is_complete());
+    Ok(())
+}
