@@ -25,7 +25,7 @@ use Rattle.entry_core.proofs.Inputs.{item_found}
 use Rattle.entry_core.proofs.LegalEntries.{legal_push}
 use Rattle.board_core.proofs.Readings.{read_on}
 use Rattle.board_core.proofs.Verdicts.{entry_by}
-use Rattle.board_core.proofs.Opened.{open_ended}
+use Rattle.entry_core.proofs.OpenAttempts.{open_ended}
 use Rattle.board_core.proofs.Indexed.{orderly_on, orderly_begun, within}
 use Rattle.board_core.proofs.Changes.{same_segments}
 use Rattle.board_core.proofs.Ended.{IsEnd, Ends, index_begun, states_ended, index_ended}
@@ -36,33 +36,23 @@ pub attempts_number : (a : Inside) → IsKept a → vec_len a.index.attempts ≡
 attempts_number a kept = a.index.attempts.ok.0 ∙ ap length (sym kept.index.begun) ∙ length-map (attempts a.journal.items) (λ (begun : Attempt). begun.job)
 
 pub kept_begun : (a : Inside) (after : Vec Entry Global) (states : Vec JobState Global) (begun : Vec ℕ Global) (waiting : List (Option Rank)) (caller job number : ℕ) → IsKept a → IsWorker a.rules caller
-    → IsNext a.rules a.journal.items job → number ≡ vec_len a.index.attempts + 1 → vec_len a.index.attempts < 4294967295
+    → IsNext a.rules a.journal.items job → number ≡ vec_len a.index.attempts + 1
     → after.items ≡ a.journal.items ++ entry_by caller (event.Began job number) ∷ [] → vec_len a.journal + (room a.index + 2) ≤ vec_capacity after
     → begun.items ≡ a.index.attempts.items ++ job ∷ []
     → states.items ≡ slice_set a.index.jobs.items (job - 1) (record (state_at a.index.jobs.items job) { open_now = (state_at a.index.jobs.items job).open_now + 1 })
     → waiting ≡ slice_set a.index.waiting (job - 1) (rank_of a.rules.attempts job (record (state_at a.index.jobs.items job) { open_now = (state_at a.index.jobs.items job).open_now + 1 }))
     → IsKept (record a { journal = after; index = record a.index { jobs = states; attempts = begun; waiting = waiting; open_now = a.index.open_now + 1 } })
-kept_begun a after states begun waiting caller job number kept worker next numbered few more spare more_begun written ranked =
+kept_begun a after states begun waiting caller job number kept worker next numbered more spare more_begun written ranked =
     let entry : Entry = entry_by caller (event.Began job number) in
-    let new : Attempt = record { number = number; worker = caller; job = job } in
     let after_state : JobState = record (state_at a.index.jobs.items job) { open_now = (state_at a.index.jobs.items job).open_now + 1 } in
     let all = attempts_number a kept in
     let next_number : number ≡ length (attempts a.journal.items) + 1 = omega arith in
     let longer : length after.items ≡ length a.journal.items + 1 = ap length more ∙ length_push a.journal.items entry in
     let count : length states.items ≡ length a.index.jobs.items = ap length written ∙ length-set a.index.jobs.items (job - 1) after_state in
-    let one_more : length (attempts (a.journal.items ++ entry ∷ [])) ≡ length (attempts a.journal.items) + 1 =
-    ap length (read_on (λ (e : Entry). begun_by e.caller e.event) a.journal.items entry new refl) ∙ length_push (attempts a.journal.items) new in
-    let same = same_segments a.journal.items entry refl in
     record {
       limits = kept.limits;
       legal = subst (IsLegal a.rules) (sym more) (legal_push a.rules a.journal.items entry kept.legal (record { worker = worker; next_job = next; next_number = next_number }));
-      few = subst AreFew (sym more) (record {
-        jobs = subst (λ n. n ≤ 1048576) (ap length (sym same)) kept.few.jobs;
-        clauses = subst (λ n. n ≤ 16777216) (ap (λ all. length (tagged_from 1 all)) (sym same)) kept.few.clauses;
-        literals = subst (λ n. n ≤ 33554432) (ap (sum_by segment_literals) (sym same)) kept.few.literals;
-        packets = few_packets a.journal.items entry kept.few refl;
-        attempts = omega arith;
-      });
+      few = subst AreFew (sym more) (few_on a.journal.items entry kept.few refl (few_packets a.journal.items entry kept.few refl));
       orderly = subst IsOrderly (sym more) (orderly_begun a.journal.items caller job number kept.orderly next_number);
       index = subst (λ all. IsIndexOf a.rules all (record a.index { jobs = states; attempts = begun; waiting = waiting; open_now = a.index.open_now + 1 })) (sym more)
           (index_begun a.rules a.journal.items a.index caller job number states begun waiting (base_of a kept) kept.index next.waiting.from_one next.waiting.added next_number more_begun written);
@@ -147,7 +137,7 @@ kept_ended_with a after caller happened number begun states waiting tally total 
     record {
       limits = kept.limits;
       legal = subst (IsLegal a.rules) (sym more) (legal_push a.rules a.journal.items entry kept.legal allowed);
-      few = subst AreFew (sym more) (few_on a.journal.items entry kept.few end.adds end.begins (few_packets a.journal.items entry kept.few end.shares));
+      few = subst AreFew (sym more) (few_on a.journal.items entry kept.few end.adds (few_packets a.journal.items entry kept.few end.shares));
       orderly = subst IsOrderly (sym more) (orderly_on a.journal.items entry kept.orderly end.begins
           (λ n is. subst (λ k. k ≤ length (attempts a.journal.items)) (same_Some number n (sym end.ends ∙ is)) (within a.journal.items number begun running.found)));
       index = subst (λ all. IsIndexOf a.rules all (record a.index { jobs = states; waiting = waiting; settled = tally; open_now = total; models = models })) (sym more)

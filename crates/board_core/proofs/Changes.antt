@@ -29,7 +29,7 @@ use Rattle.board_core.proofs.Readings.{IsFree, over_of, unsettled_free, unread, 
 use Rattle.board_core.specs.Overtaking.{IsModelsOf, next_ending}
 use Rattle.board_core.proofs.Verdicts.{entry_by, verdict_by, settled_step, same_models}
 use Rattle.board_core.proofs.Models.{models_stay, over_more, next_over}
-use Rattle.board_core.proofs.Opened.{open_same}
+use Rattle.entry_core.proofs.OpenAttempts.{open_same}
 use Rattle.board_core.proofs.Tallies.{tally_same, tally_one}
 use Rattle.board_core.proofs.Indexed.{ending_stays, ending_some, spent_same}
 

@@ -20,7 +20,7 @@ use Rattle.board_core.specs.declared.index.Models.{Models}
 use Rattle.board_core.specs.Overtaking.{IsModelsOf}
 use Rattle.board_core.proofs.Verdicts.{entry_by, begun_models}
 use Rattle.board_core.proofs.Models.{models_stay}
-use Rattle.board_core.proofs.Opened.{open_begun, open_ended}
+use Rattle.entry_core.proofs.OpenAttempts.{open_begun, open_ended}
 use Rattle.board_core.proofs.Indexed.{ending_stays, spent_begun}
 use Rattle.board_core.proofs.Changes.{IsBase, step, same_state, same_segments, same_packets, same_attempts, same_tally, states_set}
 

@@ -18,7 +18,9 @@ use Rattle.board_core.specs.declared.index.Ending.TheVariants as ending
 use Rattle.board_core.specs.Index.{answered_by, verdict_in, IsEndingOf, AreNumberedFrom, IsOrderly}
 use Rattle.board_core.proofs.Readings.{unread, read_on}
 use Rattle.board_core.proofs.Verdicts.{count_same, attempt_kept}
-use Rattle.entry_core.proofs.Inputs.{item_found}
+use Rattle.entry_core.proofs.OpenAttempts.{numbered_push}
+use Rattle.entry_core.proofs.Readings.{bounded}
+pub use Rattle.entry_core.proofs.Readings.{spent_same, spent_more, within}
 
 get_in_front : {X : Type 0} (xs ys : List X) (i : ℕ) → i < length xs → slice_get (xs ++ ys) i ≡ slice_get xs i
 get_in_front [] ys i lt = absurd (omega arith)
@@ -52,20 +54,6 @@ ending_some journal None None is = refl
 ending_some journal None (Some found) is = absurd (cc)
 ending_some journal (Some how) None is = absurd (none_is None is.0 refl)
 ending_some journal (Some how) (Some found) is = refl
-
--- what was said of attempts so far speaks of attempts that were begun
-bounded : {X : Type 0} (read : Entry → Option X) (number : X → ℕ) (journal : List Entry) (entry : Entry) (most more : ℕ) → most ≤ more
-    → All (λ x. number x ≤ most) (filter_map read journal) → ((x : X) → read entry ≡ Some x → number x ≤ more)
-    → All (λ x. number x ≤ more) (filter_map read (journal ++ entry ∷ []))
-bounded {X} read number journal entry most more le all new =
-    subst (All (λ x. number x ≤ more)) (sym (filter_map-append read journal (entry ∷ [])))
-    (All-append (λ x. number x ≤ more) (filter_map read journal) (cons_option (read entry) [])
-    (λ k d lt. let below = all k d lt in omega arith) (one (read entry) refl))
-  where
-    one : (o : Option X) → read entry ≡ o → All (λ x. number x ≤ more) (cons_option o [])
-    one None is k d lt = absurd (omega arith)
-    one (Some x) is zero d lt = new x is
-    one (Some x) is (suc k) d lt = absurd (omega arith)
 
 -- what a reading of ends gives is the attempt that ends
 pub spent_ends : (happened : Event) (n : ℕ) → spent_by happened ≡ Some n → ended_by happened ≡ Some n
@@ -115,10 +103,6 @@ orderly_on journal entry orderly none ends =
       starved = bounded (λ (e : Entry). starved_by e.event) (λ n. n) journal entry _ _ le orderly.starved (λ n is. let k = ends n (starved_ends entry.event n is) in omega arith);
     }
 
-numbered_push : (begun : List Attempt) (new : Attempt) (first : ℕ) → AreNumberedFrom first begun → new.number ≡ first + length begun → AreNumberedFrom first (begun ++ new ∷ [])
-numbered_push [] new first numbered is = (is ∙ omega arith, tt)
-numbered_push (attempt ∷ rest) new first numbered is = (numbered.0, numbered_push rest new (suc first) numbered.1 (is ∙ omega arith))
-
 -- after an entry that begins the next attempt
 pub orderly_begun : (journal : List Entry) (caller job number : ℕ) → IsOrderly journal → number ≡ length (attempts journal) + 1
     → IsOrderly (journal ++ record { caller = caller; event = event.Began job number } ∷ [])
@@ -135,20 +119,6 @@ orderly_begun journal caller job number orderly next =
       starved = bounded (λ (e : Entry). starved_by e.event) (λ n. n) journal entry _ _ le orderly.starved (λ n is. absurd (cc));
     }
 
--- spent attempts
-pub spent_same : (journal : List Entry) (entry : Entry) (job : ℕ) → begun_by entry.caller entry.event ≡ None → spent_by entry.event ≡ None
-    → spent_attempts (journal ++ entry ∷ []) job ≡ spent_attempts journal job
-spent_same journal entry job begins spends =
-    ap (λ all. count_by (λ n. is_at job (item_at all n)) (filter_map (λ (e : Entry). spent_by e.event) (journal ++ entry ∷ []))) (unread (λ (e : Entry). begun_by e.caller e.event) journal entry begins)
-    ∙ ap (count_by (is_attempt_at journal job)) (unread (λ (e : Entry). spent_by e.event) journal entry spends)
-
-pub spent_more : (journal : List Entry) (entry : Entry) (job number : ℕ) → begun_by entry.caller entry.event ≡ None → spent_by entry.event ≡ Some number
-    → spent_attempts (journal ++ entry ∷ []) job ≡ spent_attempts journal job + cond (is_attempt_at journal job number) 1 0
-spent_more journal entry job number begins spends =
-    ap (λ all. count_by (λ n. is_at job (item_at all n)) (filter_map (λ (e : Entry). spent_by e.event) (journal ++ entry ∷ []))) (unread (λ (e : Entry). begun_by e.caller e.event) journal entry begins)
-    ∙ ap (count_by (is_attempt_at journal job)) (read_on (λ (e : Entry). spent_by e.event) journal entry number spends)
-    ∙ sum_by_push (λ n. cond (is_attempt_at journal job n) 1 0) (filter_map (λ (e : Entry). spent_by e.event) journal) number
-
 pub spent_begun : (journal : List Entry) (entry : Entry) (new : Attempt) (job : ℕ) → IsOrderly journal → begun_by entry.caller entry.event ≡ Some new → spent_by entry.event ≡ None
     → spent_attempts (journal ++ entry ∷ []) job ≡ spent_attempts journal job
 spent_begun journal entry new job orderly begins spends =
@@ -157,9 +127,3 @@ spent_begun journal entry new job orderly begins spends =
     ∙ ap (count_by (λ n. is_at job (item_at (attempts journal ++ new ∷ []) n))) (unread (λ (e : Entry). spent_by e.event) journal entry spends)
     ∙ count_same (λ n. is_at job (item_at (attempts journal ++ new ∷ []) n)) (is_attempt_at journal job) spents
     (λ k d lt. attempt_kept (attempts journal) new job (slice_index_or spents k d) (orderly.spents k d lt))
-
--- an attempt that was begun has a number among theirs
-pub within : (journal : List Entry) (number : ℕ) (begun : Attempt) → attempt journal number ≡ Some begun → number ≤ length (attempts journal)
-within journal number begun is =
-    let at = item_found (attempts journal) number begun is in
-    let lt = slice_get_within (attempts journal) (number - 1) begun at.1 in let e = at.0 in omega arith

@@ -12,7 +12,7 @@ use Rattle.entry_core.specs.declared.entries.Entry.{Entry}
 use Rattle.entry_core.specs.declared.entries.Event.TheVariants as event
 use Rattle.entry_core.specs.declared.segments.Segment.{Segment}
 use Rattle.entry_core.specs.Journal.{segment_of, segments, jobs, tagged_from, segment_literals, packet_of, packets as packets_of, is_closed}
-use Rattle.entry_core.specs.Attempts.{begun_by, attempts, is_open}
+use Rattle.entry_core.specs.Attempts.{attempts, is_open}
 use Rattle.entry_core.specs.Legal.{IsClient, IsWorker, IsLegal, IsShareable}
 use Rattle.board_core.specs.declared.board.Board.TheInside.{Inside}
 use Rattle.board_core.specs.declared.index.Ending.TheVariants as ending
@@ -21,28 +21,28 @@ use Rattle.board_core.specs.Index.{state_at, rank_of, ranks_from, IsIndexOf, IsO
 use Rattle.board_core.specs.Kept.{state_of, AreFew, IsKept}
 use Rattle.board_core.specs.Overtaking.{next_ending}
 use Rattle.board_core.specs.Replies.{IsUnsettled, HasRoomFor}
+use Rattle.entry_core.proofs.FewAttempts.{attempts_are_few}
 use Rattle.entry_core.proofs.LegalEntries.{legal_push}
 use Rattle.board_core.proofs.Readings.{read_on}
 use Rattle.board_core.proofs.Verdicts.{entry_by}
 use Rattle.board_core.proofs.Indexed.{orderly_on}
-use Rattle.board_core.proofs.Changes.{IsBase, same_segments, same_packets, same_attempts, index_closed, index_cancelled, index_grown, index_shared, index_added, added_state, jobs_push, inputs_push, literals_push}
+use Rattle.board_core.proofs.Changes.{IsBase, same_segments, same_packets, index_closed, index_cancelled, index_grown, index_shared, index_added, added_state, jobs_push, inputs_push, literals_push}
 use Rattle.board_core.proofs.Ranked.{ranks_push, ranks_set, ranks_length}
 use Rattle.board_core.proofs.Tallies.{tally_le, tally_lt}
 
 pub base_of : (a : Inside) → IsKept a → IsBase a.rules a.journal.items
 base_of a kept = record { some = kept.limits.some_attempt; orderly = kept.orderly }
 
--- no job and no attempt more
-pub few_on : (journal : List Entry) (entry : Entry) → AreFew journal → segment_of entry.event ≡ None → begun_by entry.caller entry.event ≡ None
+-- no job more
+pub few_on : (journal : List Entry) (entry : Entry) → AreFew journal → segment_of entry.event ≡ None
     → length (packets_of (journal ++ entry ∷ [])) ≤ 4194304 → AreFew (journal ++ entry ∷ [])
-few_on journal entry few adds begins shares =
+few_on journal entry few adds shares =
     let same = same_segments journal entry adds in
     record {
       jobs = subst (λ n. n ≤ 1048576) (ap length (sym same)) few.jobs;
       clauses = subst (λ n. n ≤ 16777216) (ap (λ all. length (tagged_from 1 all)) (sym same)) few.clauses;
       literals = subst (λ n. n ≤ 33554432) (ap (sum_by segment_literals) (sym same)) few.literals;
       packets = shares;
-      attempts = subst (λ n. n ≤ 4294967295) (ap length (sym (same_attempts journal entry begins))) few.attempts;
     }
 
 pub few_packets : (journal : List Entry) (entry : Entry) → AreFew journal → packet_of entry.event ≡ None → length (packets_of (journal ++ entry ∷ [])) ≤ 4194304
@@ -72,7 +72,7 @@ kept_closed a after caller place kept client none more capacity here =
     record {
       limits = kept.limits;
       legal = subst (IsLegal a.rules) (sym more) (legal_push a.rules a.journal.items entry kept.legal (record { client = client; not_closed = not_closed }));
-      few = subst AreFew (sym more) (few_on a.journal.items entry kept.few refl refl (few_packets a.journal.items entry kept.few refl));
+      few = subst AreFew (sym more) (few_on a.journal.items entry kept.few refl (few_packets a.journal.items entry kept.few refl));
       orderly = subst IsOrderly (sym more) (orderly_on a.journal.items entry kept.orderly refl (λ n is. absurd (cc)));
       index = subst (λ all. IsIndexOf a.rules all (record a.index { closed = Some place })) (sym more) (index_closed a.rules a.journal.items a.index caller place (base_of a kept) kept.index none (here ∙ after.ok.0 ∙ longer));
       waiting = kept.waiting;
@@ -117,7 +117,7 @@ kept_cancelled a after states waiting caller job kept client unsettled more capa
       limits = kept.limits;
       legal = subst (IsLegal a.rules) (sym more) (legal_push a.rules a.journal.items entry kept.legal
           (record { client = client; from_one = unsettled.there.from_one; added = unsettled.there.added; unsettled = unsettled.unsettled }));
-      few = subst AreFew (sym more) (few_on a.journal.items entry kept.few refl refl (few_packets a.journal.items entry kept.few refl));
+      few = subst AreFew (sym more) (few_on a.journal.items entry kept.few refl (few_packets a.journal.items entry kept.few refl));
       orderly = subst IsOrderly (sym more) (orderly_on a.journal.items entry kept.orderly refl (λ n is. absurd (cc)));
       index = subst (λ all. IsIndexOf a.rules all (record a.index { jobs = states; waiting = waiting; settled = a.index.settled + 1 })) (sym more)
           (index_cancelled a.rules a.journal.items a.index caller job states waiting (base_of a kept) kept.index unsettled.there.from_one unsettled.there.added unsettled.unsettled written);
@@ -130,11 +130,15 @@ kept_cancelled a after states waiting caller job kept client unsettled more capa
     room_settled n n' s o size size' most most' true lt e le more same = omega arith
     room_settled n n' s o size size' most most' false lt e le more same = omega arith
 
+-- The attempts on a board are few.
+pub few_begun : (a : Inside) → IsKept a → length (attempts a.journal.items) ≤ 67108864
+few_begun a kept = (attempts_are_few a.rules a.journal.items kept.legal).most kept.limits
+
 pub countable : (a : Inside) → IsKept a → IsCountable a.index
 countable a kept = record {
   settled = let le = tally_le a.rules a.journal.items (jobs a.journal.items) in let s = kept.index.settled in let e = kept.index.jobs in omega arith;
   jobs = let e = kept.index.jobs in let few = kept.few.jobs in omega arith;
-  open_now = let le = count_by-le-length (is_open a.journal.items) (attempts a.journal.items) in let e = kept.index.open_now in let few = kept.few.attempts in omega arith;
+  open_now = let le = count_by-le-length (is_open a.journal.items) (attempts a.journal.items) in let e = kept.index.open_now in let few = few_begun a kept in omega arith;
 }
 
 -- more room
@@ -176,7 +180,7 @@ kept_shared a after packets caller packet copy kept worker shareable few more sp
     record {
       limits = kept.limits;
       legal = subst (IsLegal a.rules) (sym more) (legal_push a.rules a.journal.items entry kept.legal (record { worker = worker; few = omega arith; shareable = shareable }));
-      few = subst AreFew (sym more) (few_on a.journal.items entry kept.few refl refl (omega arith));
+      few = subst AreFew (sym more) (few_on a.journal.items entry kept.few refl (omega arith));
       orderly = subst IsOrderly (sym more) (orderly_on a.journal.items entry kept.orderly refl (λ n is. absurd (cc)));
       index = subst (λ all. IsIndexOf a.rules all (record a.index { packets = packets })) (sym more)
           (index_shared a.rules a.journal.items a.index caller packet copy packets (base_of a kept) kept.index more_packets same);
@@ -214,7 +218,6 @@ kept_added a after states added waiting caller segment copy clauses occurrences 
         clauses = let e = inputs_push a.journal.items entry (arc_value segment) seen in let le = fits.clauses.few_clauses in omega arith;
         literals = let e = literals_push a.journal.items entry (arc_value segment) seen in let le = fits.few_literals in omega arith;
         packets = few_packets a.journal.items entry kept.few refl;
-        attempts = subst (λ n. n ≤ 4294967295) (ap length (sym (same_attempts a.journal.items entry refl))) kept.few.attempts;
       });
       orderly = subst IsOrderly (sym more) (orderly_on a.journal.items entry kept.orderly refl (λ n is. absurd (cc)));
       index = subst (λ all. IsIndexOf a.rules all (record a.index { jobs = states; segments = added; waiting = waiting; clauses = a.index.clauses + clauses; literals = a.index.literals + occurrences; settled = a.index.settled + tally })) (sym more)

@@ -3,7 +3,6 @@ pub mod Roots
 pub mod Entrants
 pub mod Readings
 pub mod Verdicts
-pub mod Opened
 pub mod Tallies
 pub mod Indexed
 pub mod Models

@@ -14,16 +14,7 @@ use Rattle.entry_core.specs.declared.rules.Rules.{Rules}
 use Rattle.entry_core.specs.Journal.{is_closing, is_closed, closing_place}
 use Rattle.entry_core.specs.Attempts.{is_attempt_at, spent_attempts}
 use Rattle.entry_core.specs.Settled.{Decision, decisions, cancelled, starved, or_else, given_if, overtaken, standing, settled_after, settled}
-
--- an entry that a reading doesn't see
-pub unread : {X : Type 0} (read : Entry → Option X) (journal : List Entry) (entry : Entry) → read entry ≡ None → filter_map read (journal ++ entry ∷ []) ≡ filter_map read journal
-unread read journal entry none =
-    filter_map-append read journal (entry ∷ []) ∙ ap (λ o. filter_map read journal ++ cons_option o []) none ∙ append-nil (filter_map read journal)
-
--- an entry that a reading sees
-pub read_on : {X : Type 0} (read : Entry → Option X) (journal : List Entry) (entry : Entry) (x : X) → read entry ≡ Some x → filter_map read (journal ++ entry ∷ []) ≡ filter_map read journal ++ x ∷ []
-read_on read journal entry x some =
-    filter_map-append read journal (entry ∷ []) ∙ ap (λ o. filter_map read journal ++ cons_option o []) some
+pub use Rattle.entry_core.proofs.Readings.{unread, read_on}
 
 pub or_none : (given : Option Verdict) → or_else given None ≡ given
 or_none None = refl

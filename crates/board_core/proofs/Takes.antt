@@ -22,7 +22,7 @@ use Rattle.board_core.specs.Kept.{state_of, IsKept}
 use Rattle.board_core.specs.Replies.{IsJob, IsOwn, IsDone, IsIdle}
 use Rattle.board_core.proofs.Firsts.{first_is_next, nobody_waits}
 use Rattle.board_core.proofs.Readings.{read_on, unread}
-use Rattle.board_core.proofs.Opened.{none_equal}
+use Rattle.entry_core.proofs.OpenAttempts.{none_equal}
 use Rattle.board_core.proofs.Endings.{get_last}
 use Rattle.board_core.proofs.Tallies.{tally_lt}
 

@@ -20,6 +20,7 @@ use Rattle.board_core.specs.declared.index.Ending.TheVariants as ending
 use Rattle.board_core.specs.declared.index.JobState.{JobState}
 use Rattle.board_core.specs.declared.index.Attempted.{Attempted}
 use Rattle.board_core.specs.declared.index.Index.{Index}
+pub use Rattle.entry_core.specs.Attempts.{AreNumberedFrom}
 pub use Rattle.board_core.specs.States.{new_job, or_new, state_at, rank_of, ranks_from}
 use Rattle.board_core.specs.Overtaking.{IsModelsOf}
 
@@ -71,11 +72,6 @@ pub record IsStateOf (rules : Rules) (journal : List Entry) (job : ℕ)
   pub spent : state.spent ≡ spent_attempts journal job
   pub ending : IsEndingOf journal state.ending (settled rules journal job)
 
-abbrev pub AreNumberedFrom : ℕ → List Attempt → Type 0
-AreNumberedFrom number [] = Unit {0}
-AreNumberedFrom number (attempt ∷ rest) =
-    (attempt.number ≡ number) × AreNumberedFrom (suc number) rest
-
 -- Attempts have their places as their numbers, and what is said of an attempt comes after it was
 -- begun.
 pub record IsOrderly (journal : List Entry) : Type 0 where
@@ -112,4 +108,4 @@ room index =
 pub record IsCountable (index : Index) : Type 0 where
   pub settled : index.settled ≤ length index.jobs.items
   pub jobs : length index.jobs.items ≤ most_jobs
-  pub open_now : index.open_now ≤ 4294967295
+  pub open_now : index.open_now ≤ 67108864

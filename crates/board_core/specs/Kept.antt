@@ -3,7 +3,6 @@ use Rattle.std.specs.Prelude.{◌≡◌, ◌+◌, ◌≤◌, List, length, vec_c
 use Rattle.sat_base.specs.Limits.{most_clauses, most_jobs, most_literals, most_packets}
 use Rattle.entry_core.specs.declared.entries.Entry.{Entry}
 use Rattle.entry_core.specs.Journal.{jobs, inputs, literals, packets}
-use Rattle.entry_core.specs.Attempts.{attempts}
 use Rattle.entry_core.specs.Legal.{AreWithinLimits, IsLegal}
 use Rattle.board_core.specs.declared.board.Board.TheInside.{Inside}
 use Rattle.board_core.specs.State.{State}
@@ -18,7 +17,6 @@ pub record AreFew (journal : List Entry) : Type 0 where
   pub clauses : length (inputs journal) ≤ most_clauses
   pub literals : literals journal ≤ most_literals
   pub packets : length (packets journal) ≤ most_packets
-  pub attempts : length (attempts journal) ≤ 4294967295
 
 pub record IsKept (a : Inside) : Type 0 where
   pub limits : AreWithinLimits a.rules

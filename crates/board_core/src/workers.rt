@@ -21,8 +21,7 @@ use trace_core::Packet;
 
 impl Board {
     /// Begins the next attempt, at the job of the scheduling rule, or says that there is none to
-    /// take. Memory is wanting only where there is one. As many attempts as there are numbers of 32
-    /// bits are answered as want of memory.
+    /// take. Memory is wanting only where there is one.
     pub fn take(&mut self, caller: u32) -> Result<Task, AllocError>
         requires worker { IsWorker self.old.rules caller }
         ensures task { IfOk result (IsTask self.old self.new caller) }
@@ -34,9 +33,6 @@ impl Board {
         };
         let job = rank.job;
         let begun = self.index.attempts.len();
-        if begun >= u32::MAX as usize {
-            return Err(AllocError);
-        }
         let room = self.index.room();
         self.index.attempts.reserve(1)?;
         self.journal.reserve(room + 2)?;

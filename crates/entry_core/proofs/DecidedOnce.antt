@@ -89,12 +89,12 @@ has_decided rules front more caller (event.Spent number learnt) job is allowed =
 has_decided rules front more caller (event.Dropped number) job is allowed = absurd (cc)
 has_decided rules front more caller (event.Starved number) job is allowed = absurd (cc)
 
-neither : (a b : Option Verdict) → or_else a b ≡ None → (a ≡ None) × (b ≡ None)
+pub neither : (a b : Option Verdict) → or_else a b ≡ None → (a ≡ None) × (b ≡ None)
 neither None b is = (refl, is)
 neither (Some found) b is = absurd (cc)
 
 -- Behind at least one entry no case stands for a job that isn't settled.
-no_case : (rules : Rules) (journal : List Entry) (entry : Entry) (job : ℕ)
+pub no_case : (rules : Rules) (journal : List Entry) (entry : Entry) (job : ℕ)
     → Contains journal entry → settled rules journal job ≡ None → standing rules journal job ≡ None
 no_case rules [] entry job has is = nothing_in entry has
 no_case rules (first ∷ rest) entry job has is =
@@ -124,7 +124,7 @@ unmapped None is = refl
 unmapped (Some decision) is = absurd (cc)
 
 -- A job with a decided attempt is settled.
-is_settled : {A : Type 0} (rules : Rules) (journal : List Entry) (entry : Entry)
+pub is_settled : {A : Type 0} (rules : Rules) (journal : List Entry) (entry : Entry)
     (decision : Decision) (job : ℕ) → Contains journal entry
     → decision_of entry.event ≡ Some decision → is_attempt_at journal job decision.number ≡ true
     → settled rules journal job ≡ None → A

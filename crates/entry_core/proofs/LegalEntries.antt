@@ -23,7 +23,7 @@ use Rattle.entry_core.specs.Journal.{jobs, clauses_of, cube_of}
 use Rattle.entry_core.specs.Attempts.{Attempt, begun_by, attempts, attempt, is_at, is_attempt_at}
 use Rattle.entry_core.specs.Settled.{Decision, decision_of, decisions}
 use Rattle.entry_core.specs.Right.{HasTrace, IsRightAnswer, IsSpent, IsSpentFor}
-use Rattle.entry_core.specs.Legal.{IsAllowed, IsLegalAfter, IsLegal, MayDecide, MaySpend}
+use Rattle.entry_core.specs.Legal.{IsAllowed, IsLegalAfter, IsLegal, MayBegin, MayDecide, MaySpend}
 use Rattle.entry_core.specs.Causes.{spent_list_of, spent_lists}
 use Rattle.entry_core.proofs.LongerJournals.{longer_journal_keeps}
 
@@ -134,26 +134,28 @@ own_job journal job number begun found is =
     let own = own_attempt journal job number is in
     ap (λ (a : Attempt). a.job) (same_Some begun own.0 (sym found ∙ own.1)) ∙ own.2
 
-began_at : (rules : Rules) (before : List Entry) (caller : ℕ) (happened : Event) (begun : Attempt) → begun_by caller happened ≡ Some begun
-    → IsAllowed rules before caller happened → begun.job ≤ jobs before
-began_at rules before caller (event.Began job number) begun is allowed =
+-- an attempt was begun where it might be
+pub may_begin : (rules : Rules) (before : List Entry) (caller : ℕ) (happened : Event) (begun : Attempt)
+    → begun_by caller happened ≡ Some begun → IsAllowed rules before caller happened
+    → MayBegin rules before caller begun.job begun.number
+may_begin rules before caller (event.Began job number) begun is allowed =
     let same = same_Some (record { number = number; worker = caller; job = job }) begun is in
-    subst (λ (a : Attempt). a.job ≤ jobs before) same allowed.next_job.waiting.added
-began_at rules before caller (event.Added segment) begun is allowed = absurd (cc)
-began_at rules before caller event.Closed begun is allowed = absurd (cc)
-began_at rules before caller (event.Cancelled job) begun is allowed = absurd (cc)
-began_at rules before caller (event.Shared packet) begun is allowed = absurd (cc)
-began_at rules before caller (event.Spent number learnt) begun is allowed = absurd (cc)
-began_at rules before caller (event.Dropped number) begun is allowed = absurd (cc)
-began_at rules before caller (event.Decided number given) begun is allowed = absurd (cc)
-began_at rules before caller (event.Starved number) begun is allowed = absurd (cc)
+    subst (λ (a : Attempt). MayBegin rules before caller a.job a.number) same allowed
+may_begin rules before caller (event.Added segment) begun is allowed = absurd (cc)
+may_begin rules before caller event.Closed begun is allowed = absurd (cc)
+may_begin rules before caller (event.Cancelled job) begun is allowed = absurd (cc)
+may_begin rules before caller (event.Shared packet) begun is allowed = absurd (cc)
+may_begin rules before caller (event.Spent number learnt) begun is allowed = absurd (cc)
+may_begin rules before caller (event.Dropped number) begun is allowed = absurd (cc)
+may_begin rules before caller (event.Decided number given) begun is allowed = absurd (cc)
+may_begin rules before caller (event.Starved number) begun is allowed = absurd (cc)
 
 -- the job of an attempt was added
 pub job_there : (rules : Rules) (journal : List Entry) (number : ℕ) (begun : Attempt) → IsLegal rules journal → attempt journal number ≡ Some begun → begun.job ≤ jobs journal
 job_there rules journal number begun legal found =
     let from = from_reading (λ (entry : Entry). begun_by entry.caller entry.event) journal begun (item_at-contains (attempts journal) number begun found) in
     let was = was_allowed rules journal from.0 legal from.1 in
-    let then : begun.job ≤ jobs was.front = began_at rules was.front from.0.caller from.0.event begun from.2 was.allowed in
+    let then : begun.job ≤ jobs was.front = (may_begin rules was.front from.0.caller from.0.event begun from.2 was.allowed).next_job.waiting.added in
     let more : jobs was.front ≤ jobs (was.front ++ was.more) = (longer_journal_keeps rules was.front was.more).more_jobs in
     let same : jobs (was.front ++ was.more) ≡ jobs journal = ap jobs was.whole in
     omega arith

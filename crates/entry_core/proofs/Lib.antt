@@ -1,9 +1,12 @@
 pub mod DecidedOnce
+pub mod FewAttempts
 pub mod Inputs
 pub mod LargeBudgets
 pub mod LegalEntries
 pub mod Limits
 pub mod LongerJournals
+pub mod OpenAttempts
+pub mod Readings
 pub mod SharedPackets
 pub mod SharedSteps
 pub mod VerdictCauses

@@ -1,6 +1,6 @@
 -- What a journal says of attempts: which were begun, which are open, which were spent.
-use Rattle.std.specs.Prelude.{ℕ, Bool, false, not, ◌&&◌, ◌==◌, Option, None, Some, List, filter_map}
-use Rattle.std.specs.Prelude.{count_by}
+use Rattle.std.specs.Prelude.{◌≡◌, ℕ, suc, Bool, false, not, ◌&&◌, ◌==◌, Option, None, Some, List}
+use Rattle.std.specs.Prelude.{[], ◌∷◌, filter_map, count_by}
 use Rattle.std.specs.List.{list_any}
 use Rattle.trace_core.specs.Known.{item_at}
 use Rattle.entry_core.specs.declared.entries.Entry.{Entry}
@@ -23,6 +23,16 @@ attempts journal = filter_map (λ entry. begun_by entry.caller entry.event) jour
 
 abbrev pub attempt : List Entry → ℕ → Option Attempt
 attempt journal number = item_at (attempts journal) number
+
+-- attempts whose numbers are their places, the first of them having this number
+abbrev pub AreNumberedFrom : ℕ → List Attempt → Type 0
+AreNumberedFrom number [] = Unit {0}
+AreNumberedFrom number (attempt ∷ rest) =
+    (attempt.number ≡ number) × AreNumberedFrom (suc number) rest
+
+-- how many attempts at the job were begun
+abbrev pub begun_attempts : List Entry → ℕ → ℕ
+begun_attempts journal job = count_by (λ attempt. attempt.job == job) (attempts journal)
 
 abbrev pub ended_by : Event → Option ℕ
 ended_by (event.Spent number learnt) = Some number

@@ -1,6 +1,6 @@
 -- Laws of legal journals.
-use Rattle.std.specs.Prelude.{◌≡◌, ℕ, ◌^◌, ◌≤◌, Option, Some, None, List, [], ◌∷◌, ◌++◌, length}
-use Rattle.std.specs.Prelude.{All, Contains}
+use Rattle.std.specs.Prelude.{◌≡◌, ℕ, ◌*◌, ◌^◌, ◌≤◌, Option, Some, None, List, []}
+use Rattle.std.specs.Prelude.{◌∷◌, ◌++◌, length, All, Contains}
 use Rattle.sat_base.specs.Lit.{IsTautology, greatest_of, greatest_of_all, variables}
 use Rattle.sat_base.specs.Truth.{Entails}
 use Rattle.trace_core.specs.Known.{item_at}
@@ -13,7 +13,7 @@ use Rattle.entry_core.specs.declared.entries.Event.{Event}
 use Rattle.entry_core.specs.declared.entries.Event.TheVariants as event
 use Rattle.entry_core.specs.declared.rules.Rules.{Rules}
 use Rattle.entry_core.specs.Journal.{jobs, inputs, inputs_of, clauses_of, cube_of, packets}
-use Rattle.entry_core.specs.Attempts.{attempt}
+use Rattle.entry_core.specs.Attempts.{attempts, attempt, begun_attempts}
 use Rattle.entry_core.specs.Settled.{job_of, settled}
 use Rattle.entry_core.specs.Legal.{AreWithinLimits, IsLegal}
 use Rattle.entry_core.specs.Causes.{HasCause}
@@ -95,3 +95,15 @@ abbrev pub JobsAreDecidedOnce : Type 0
 JobsAreDecidedOnce =
     (rules : Rules) (journal : List Entry) (job first second : ℕ) → IsLegal rules journal
     → Decides journal job first → Decides journal job second → first ≡ second
+
+-- At most so many attempts as the rules allow were begun at each job. So there are at most so many
+-- times the number of jobs in all, which is at most 64 * 1,048,576.
+pub record HasFewAttempts (rules : Rules) (journal : List Entry) : Type 0 where
+  pub each : (job : ℕ) → begun_attempts journal job ≤ rules.attempts
+  pub all : length (attempts journal) ≤ rules.attempts * jobs journal
+  pub most : AreWithinLimits rules → length (attempts journal) ≤ 67108864
+
+-- The attempts of a legal journal are few.
+abbrev pub AttemptsAreFew : Type 0
+AttemptsAreFew =
+    (rules : Rules) (journal : List Entry) → IsLegal rules journal → HasFewAttempts rules journal

@@ -1,8 +1,8 @@
 //! Laws over the definitions alone, each as the contract of a function that does nothing.
 
-ghost use Rattle.entry_core.specs.Law.{JobsAreDecidedOnce, LargeBudgetsAnswer, LongerJournalKeeps};
-ghost use Rattle.entry_core.specs.Law.{PacketsAreBounded, PacketsAreOk, SharedStepsFollow};
-ghost use Rattle.entry_core.specs.Law.{VerdictsHaveCauses};
+ghost use Rattle.entry_core.specs.Law.{AttemptsAreFew, JobsAreDecidedOnce, LargeBudgetsAnswer};
+ghost use Rattle.entry_core.specs.Law.{LongerJournalKeeps, PacketsAreBounded, PacketsAreOk};
+ghost use Rattle.entry_core.specs.Law.{SharedStepsFollow, VerdictsHaveCauses};
 
 /// In a legal journal every step of a shared packet follows from the input clauses up to its tag.
 pub fn shared_steps_follow()
@@ -41,4 +41,10 @@ pub fn large_budgets_answer()
 /// In a legal journal at most one entry decides a job.
 pub fn jobs_are_decided_once()
     ensures { JobsAreDecidedOnce }
+{}
+
+/// In a legal journal at most so many attempts were begun at each job as the rules allow, so at most
+/// 67,108,864 in all where the rules are within their limits.
+pub fn attempts_are_few()
+    ensures { AttemptsAreFew }
 {}

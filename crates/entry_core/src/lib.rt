@@ -18,8 +18,8 @@ mod tests;
 pub use answers::{Answer, Outcome, Verdict};
 pub use entries::{Entry, Event};
 pub use laws::{
-    jobs_are_decided_once, large_budgets_answer, longer_journal_keeps, packets_are_bounded,
-    packets_are_ok, shared_steps_follow, verdicts_have_causes,
+    attempts_are_few, jobs_are_decided_once, large_budgets_answer, longer_journal_keeps,
+    packets_are_bounded, packets_are_ok, shared_steps_follow, verdicts_have_causes,
 };
 pub use rules::Rules;
 pub use segments::{Clauses, Segment};

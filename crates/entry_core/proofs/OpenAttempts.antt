@@ -6,11 +6,10 @@ use Rattle.std.proofs.lemmas.Bool.Decides.{nat_tests}
 use Rattle.std.proofs.lemmas.List.Folds.{list_any-append, list_any_none}
 use Rattle.std.proofs.lemmas.List.Sums.{sum_by-cons, sum_by_push}
 use Rattle.entry_core.specs.declared.entries.Entry.{Entry}
-use Rattle.entry_core.specs.Attempts.{Attempt, begun_by, attempts, attempt, ended_by, ended, is_open}
+use Rattle.entry_core.specs.Attempts.{Attempt, begun_by, attempts, attempt, ended_by, ended, is_open, AreNumberedFrom}
 use Rattle.entry_core.proofs.Inputs.{item_found}
 use Rattle.entry_core.proofs.LegalEntries.{or_yes}
-use Rattle.board_core.specs.Index.{AreNumberedFrom}
-use Rattle.board_core.proofs.Readings.{unread, read_on}
+use Rattle.entry_core.proofs.Readings.{unread, read_on}
 
 -- how many attempts are open at the jobs that pass the test
 abbrev pub open_where : (ℕ → Bool) → List Attempt → List ℕ → ℕ
@@ -144,3 +143,8 @@ pub open_same : (test : ℕ → Bool) (journal : List Entry) (entry : Entry) →
 open_same test journal entry begins ends =
     ap (λ all. open_where test all (ended (journal ++ entry ∷ []))) (unread (λ (e : Entry). begun_by e.caller e.event) journal entry begins)
     ∙ ap (λ all. open_where test (attempts journal) all) (unread (λ (e : Entry). ended_by e.event) journal entry ends)
+
+-- one attempt more, with the next number
+pub numbered_push : (begun : List Attempt) (new : Attempt) (first : ℕ) → AreNumberedFrom first begun → new.number ≡ first + length begun → AreNumberedFrom first (begun ++ new ∷ [])
+numbered_push [] new first numbered is = (is ∙ omega arith, tt)
+numbered_push (attempt ∷ rest) new first numbered is = (numbered.0, numbered_push rest new (suc first) numbered.1 (is ∙ omega arith))
