@@ -1,6 +1,6 @@
 -- What a board keeps when attempts begin and end.
 use Rattle.std.proofs.Common.{◌≡◌, ◌∙◌, ℕ, ◌+◌, ◌-◌, ◌<◌, ◌≤◌, Bool, true, false, cond, Option, Some, None, List, [], ◌∷◌, ◌++◌, length, refl, ap, sym, subst, arith, ◌==◌, Vec, vec_len, vec_capacity}
-use Rattle.std.specs.Prelude.{sum_by, is_some, if◌then◌else◌, option_map, slice_get, slice_index, slice_set}
+use Rattle.std.specs.Prelude.{is_some, if◌then◌else◌, option_map, slice_get, slice_index, slice_set}
 use Rattle.std.specs.declared.alloc.Global.{Global}
 use Rattle.std.proofs.lemmas.Bool.Decides.{nat_tests}
 use Rattle.std.proofs.lemmas.List.{length_push, length-set, length-map}
@@ -10,8 +10,8 @@ use Rattle.board_core.specs.declared.rank.Rank.{Rank}
 use Rattle.entry_core.specs.declared.entries.Entry.{Entry}
 use Rattle.entry_core.specs.declared.entries.Event.{Event}
 use Rattle.entry_core.specs.declared.entries.Event.TheVariants as event
-use Rattle.entry_core.specs.Journal.{jobs, tagged_from, segment_literals}
-use Rattle.entry_core.specs.Attempts.{Attempt, begun_by, attempts, open_attempts}
+use Rattle.entry_core.specs.Journal.{jobs}
+use Rattle.entry_core.specs.Attempts.{Attempt, attempts, open_attempts}
 use Rattle.entry_core.specs.Settled.{settled_jobs}
 use Rattle.entry_core.specs.Schedule.{IsNext}
 use Rattle.entry_core.specs.Legal.{IsAllowed, IsWorker, IsLegal, IsRunning}
@@ -23,11 +23,9 @@ use Rattle.board_core.specs.Overtaking.{IsModelsOf}
 use Rattle.board_core.specs.Kept.{AreFew, IsKept}
 use Rattle.entry_core.proofs.Inputs.{item_found}
 use Rattle.entry_core.proofs.LegalEntries.{legal_push}
-use Rattle.board_core.proofs.Readings.{read_on}
 use Rattle.board_core.proofs.Verdicts.{entry_by}
 use Rattle.entry_core.proofs.OpenAttempts.{open_ended}
 use Rattle.board_core.proofs.Indexed.{orderly_on, orderly_begun, within}
-use Rattle.board_core.proofs.Changes.{same_segments}
 use Rattle.board_core.proofs.Ended.{IsEnd, Ends, index_begun, states_ended, index_ended}
 use Rattle.board_core.proofs.Keeping.{base_of, few_on, few_packets, ranks_written}
 use Rattle.board_core.proofs.Looked.{item_place}

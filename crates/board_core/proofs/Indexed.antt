@@ -1,17 +1,14 @@
 -- The index after one more entry: what all kinds of entries share.
-use Rattle.std.proofs.Common.{◌≡◌, ◌∙◌, ℕ, zero, suc, ◌+◌, ◌-◌, ◌<◌, ◌≤◌, cond, Option, Some, None, List, [], ◌∷◌, ◌++◌, length, refl, ap, sym, subst, arith}
-use Rattle.std.specs.Prelude.{filter_map, count_by, All, IsSome, is_some, slice_get, slice_index_or, option_and_then}
-use Rattle.std.specs.List.{cons_option}
+use Rattle.std.proofs.Common.{◌≡◌, ◌∙◌, ℕ, zero, suc, ◌+◌, ◌<◌, ◌≤◌, Option, Some, None, List, [], ◌∷◌, ◌++◌, length, refl, ap, sym, subst, arith}
+use Rattle.std.specs.Prelude.{filter_map, count_by, IsSome, is_some, slice_get, slice_index_or, option_and_then}
 use Rattle.std.proofs.lemmas.Option.{slice_get_within, same_Some}
 use Rattle.std.proofs.lemmas.List.{length_push}
-use Rattle.std.proofs.lemmas.List.Elements.{filter_map-append, All-append}
-use Rattle.std.proofs.lemmas.List.Sums.{sum_by_push}
 use Rattle.trace_core.specs.Known.{item_at}
 use Rattle.entry_core.specs.declared.answers.Verdict.{Verdict}
 use Rattle.entry_core.specs.declared.entries.Entry.{Entry}
 use Rattle.entry_core.specs.declared.entries.Event.{Event}
 use Rattle.entry_core.specs.declared.entries.Event.TheVariants as event
-use Rattle.entry_core.specs.Attempts.{Attempt, begun_by, attempts, attempt, is_at, is_attempt_at, ended_by, spent_by, spent_attempts}
+use Rattle.entry_core.specs.Attempts.{Attempt, begun_by, attempts, is_at, is_attempt_at, ended_by, spent_by, spent_attempts}
 use Rattle.entry_core.specs.Settled.{Decision, decision_of, starved_by}
 use Rattle.board_core.specs.declared.index.Ending.{Ending}
 use Rattle.board_core.specs.declared.index.Ending.TheVariants as ending

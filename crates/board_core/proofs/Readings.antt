@@ -1,9 +1,8 @@
 -- Readings of a journal after one more entry.
 use Rattle.std.proofs.Common.{◌≡◌, ◌∙◌, ℕ, suc, ◌+◌, ◌≤◌, Bool, true, false, cond, not, Option, Some, None, List, [], ◌∷◌, ◌++◌, length, refl, ap, sym, arith, append_assoc, length-append, nat_lt, ◌==◌, eqb, ◌||◌, ◌&&◌}
-use Rattle.std.specs.Prelude.{filter_map, find, position, nat_le, option_map}
-use Rattle.std.specs.List.{list_any, cons_option, position_or_len}
+use Rattle.std.specs.Prelude.{find, position, nat_le, option_map}
+use Rattle.std.specs.List.{list_any, position_or_len}
 use Rattle.std.proofs.lemmas.Bool.Decides.{nat_tests}
-use Rattle.std.proofs.lemmas.List.Elements.{filter_map-append}
 use Rattle.std.proofs.lemmas.List.Folds.{list_any-append, position_or_len_push}
 use Rattle.std.proofs.lemmas.List.Sums.{prefix_len-le-length}
 use Rattle.std.proofs.lemmas.List.{append-nil}

@@ -1,6 +1,6 @@
 -- The index of a board: readings of the journal.
-use Rattle.std.specs.Prelude.{◌≡◌, ℕ, suc, ◌+◌, ◌-◌, ◌≤◌, Option, None, Some, IsSome}
-use Rattle.std.specs.Prelude.{is_some, List, [], ◌∷◌, map, length, filter_map, count_by, All}
+use Rattle.std.specs.Prelude.{◌≡◌, ℕ, ◌+◌, ◌-◌, ◌≤◌, Option, None, Some, IsSome}
+use Rattle.std.specs.Prelude.{is_some, List, map, length, filter_map, count_by, All}
 use Rattle.std.specs.Prelude.{slice_get, slice_index_or, option_and_then, if◌then◌else◌}
 use Rattle.std.specs.Arc.{arc_value}
 use Rattle.sat_base.specs.Limits.{most_jobs}
@@ -12,7 +12,7 @@ use Rattle.entry_core.specs.declared.entries.Event.TheVariants as event
 use Rattle.entry_core.specs.declared.rules.Rules.{Rules}
 use Rattle.entry_core.specs.Journal.{segments, jobs, inputs, literals, packets, is_closed}
 use Rattle.entry_core.specs.Journal.{closing_place}
-use Rattle.entry_core.specs.Attempts.{Attempt, attempts, ended, is_open, open_attempts, spent_by}
+use Rattle.entry_core.specs.Attempts.{attempts, ended, is_open, open_attempts, spent_by}
 use Rattle.entry_core.specs.Attempts.{spent_attempts}
 use Rattle.entry_core.specs.Settled.{decisions, starved, settled, settled_jobs}
 use Rattle.board_core.specs.declared.index.Ending.{Ending}

@@ -3,7 +3,6 @@ use Rattle.std.proofs.Common.{◌≡◌, ◌∙◌, ℕ, zero, suc, ◌+◌, ◌
 use Rattle.std.proofs.Common.{Some, None, List, [], ◌∷◌, ◌++◌, length, refl, ap, subst, sym, inl, inr}
 use Rattle.std.proofs.Common.{arith, append_assoc, ◌==◌}
 use Rattle.std.specs.Prelude.{◌⊎◌, Contains, find, option_map, slice_get}
-use Rattle.std.specs.Arc.{arc_value}
 use Rattle.std.proofs.lemmas.Bool.{cases_order}
 use Rattle.std.proofs.lemmas.Bool.Decides.{nat_tests}
 use Rattle.std.proofs.lemmas.List.{length_push}
@@ -17,7 +16,7 @@ use Rattle.entry_core.specs.declared.entries.Entry.{Entry}
 use Rattle.entry_core.specs.declared.entries.Event.{Event}
 use Rattle.entry_core.specs.declared.entries.Event.TheVariants as event
 use Rattle.entry_core.specs.declared.rules.Rules.{Rules}
-use Rattle.entry_core.specs.Attempts.{is_at, attempt, is_attempt_at}
+use Rattle.entry_core.specs.Attempts.{is_at, is_attempt_at}
 use Rattle.entry_core.specs.Settled.{Decision, decision_of, decisions, job_of, or_else, answer_to}
 use Rattle.entry_core.specs.Settled.{standing, settled_after, settled}
 use Rattle.entry_core.specs.Legal.{IsAllowed, IsLegalAfter, IsLegal}

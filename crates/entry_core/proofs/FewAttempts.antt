@@ -19,12 +19,10 @@ use Rattle.entry_core.specs.declared.entries.Event.TheVariants as event
 use Rattle.entry_core.specs.declared.rules.Rules.{Rules}
 use Rattle.entry_core.specs.Journal.{jobs}
 use Rattle.entry_core.specs.Attempts.{Attempt, begun_by, attempts, AreNumberedFrom, begun_attempts}
-use Rattle.entry_core.specs.Attempts.{ended_by, ended, open_attempts, is_at, is_attempt_at, spent_by}
-use Rattle.entry_core.specs.Attempts.{spent_attempts}
-use Rattle.entry_core.specs.Settled.{cancelled, starved_by, starved, given_if, answer_to, overtaken}
-use Rattle.entry_core.specs.Settled.{or_else, settled}
-use Rattle.entry_core.specs.Legal.{AreWithinLimits, IsAllowed, IsLegalAfter, IsLegal, IsRunning}
-use Rattle.entry_core.specs.Legal.{MayBegin}
+use Rattle.entry_core.specs.Attempts.{ended_by, ended, open_attempts, is_at, is_attempt_at}
+use Rattle.entry_core.specs.Attempts.{spent_by, spent_attempts}
+use Rattle.entry_core.specs.Settled.{starved_by, starved, given_if, answer_to, overtaken, settled}
+use Rattle.entry_core.specs.Legal.{IsAllowed, IsLegalAfter, IsLegal, IsRunning, MayBegin}
 use Rattle.entry_core.specs.Law.{AttemptsAreFew}
 use Rattle.entry_core.proofs.DecidedOnce.{neither, no_case, is_settled}
 use Rattle.entry_core.proofs.LegalEntries.{from_reading, into_reading, was_allowed, own_kept}
@@ -113,8 +111,8 @@ spends_one rules journal entry number begun begins ends spends running counted =
     (open_ended (λ n. n == job) journal entry number begun begins ends counted.numbered
     running.found running.open_yet)
     (spent_more journal entry job number begins spends
-    ∙ ap (λ (o : Option Attempt). spent_attempts journal job + cond (is_at job o) 1 0) running.found))
-    counted
+    ∙ ap (λ (o : Option Attempt). spent_attempts journal job + cond (is_at job o) 1 0)
+    running.found)) counted
 
 not_own : (b : Bool) (opens opens' spent spent' : ℕ) → (b ≡ true → ⊥) → opens' + cond b 1 0 ≡ opens
     → spent' ≡ spent → opens + spent ≤ opens' + spent'
@@ -157,7 +155,8 @@ not_starved : (rules : Rules) (journal : List Entry) (entry : Entry) (job number
     → starved_by entry.event ≡ Some number → Contains journal entry
     → settled rules journal job ≡ None → is_attempt_at journal job number ≡ true → ⊥
 not_starved rules journal entry job number starves has none own =
-    let after_answer = neither (answer_to journal job) _ (no_case rules journal entry job has none) in
+    let none_stands = no_case rules journal entry job has none in
+    let after_answer = neither (answer_to journal job) _ none_stands in
     let after_cancel = neither _ _ after_answer.1 in
     let after_spent = neither _ _ after_cancel.1 in
     let left = neither
@@ -175,7 +174,7 @@ not_starved rules journal entry job number starves has none own =
 last_there : (journal : List Entry) (entry : Entry) → Contains (journal ++ entry ∷ []) entry
 last_there journal entry = Contains-append_right journal (entry ∷ []) entry (Contains-here entry [])
 
--- an entry that ends none loses no spent attempt
+-- another entry takes no spent attempt away
 no_fewer_spent : (journal : List Entry) (entry : Entry) (job : ℕ) → spent_by entry.event ≡ None
     → spent_attempts journal job ≤ spent_attempts (journal ++ entry ∷ []) job
 no_fewer_spent journal entry job spends =
@@ -275,26 +274,29 @@ by_event rules journal caller (event.Starved number) allowed counted =
     (λ job none own. not_starved rules (journal ++ entry ∷ []) entry job number refl
     (last_there journal entry) none (own_kept journal (entry ∷ []) job number own)) counted
 by_event rules journal caller (event.Added segment) allowed counted =
-    same_counts rules journal (record { caller = caller; event = event.Added segment }) refl refl refl
-    counted
+    same_counts rules journal (record { caller = caller; event = event.Added segment })
+    refl refl refl counted
 by_event rules journal caller event.Closed allowed counted =
-    same_counts rules journal (record { caller = caller; event = event.Closed }) refl refl refl counted
+    same_counts rules journal (record { caller = caller; event = event.Closed })
+    refl refl refl counted
 by_event rules journal caller (event.Cancelled job) allowed counted =
-    same_counts rules journal (record { caller = caller; event = event.Cancelled job }) refl refl refl
-    counted
+    same_counts rules journal (record { caller = caller; event = event.Cancelled job })
+    refl refl refl counted
 by_event rules journal caller (event.Shared packet) allowed counted =
-    same_counts rules journal (record { caller = caller; event = event.Shared packet }) refl refl refl
-    counted
+    same_counts rules journal (record { caller = caller; event = event.Shared packet })
+    refl refl refl counted
 
 all_counted : (rules : Rules) (before rest : List Entry) → IsLegalAfter rules before rest
     → IsCounted rules before → IsCounted rules (before ++ rest)
-all_counted rules before [] legal counted = subst (IsCounted rules) (sym (append-nil before)) counted
+all_counted rules before [] legal counted =
+    subst (IsCounted rules) (sym (append-nil before)) counted
 all_counted rules before (entry ∷ rest) legal counted =
     subst (IsCounted rules) (append_assoc before (entry ∷ []) rest)
     (all_counted rules (before ++ entry ∷ []) rest legal.1
     (by_event rules before entry.caller entry.event legal.0 counted))
 
-is_counted : (rules : Rules) (journal : List Entry) → IsLegal rules journal → IsCounted rules journal
+is_counted : (rules : Rules) (journal : List Entry) → IsLegal rules journal
+    → IsCounted rules journal
 is_counted rules journal legal = all_counted rules [] journal legal (record {
   numbered = tt;
   ended_begun = λ k d lt. absurd (omega arith);
@@ -365,7 +367,8 @@ all_at_jobs : (rules : Rules) (journal : List Entry) → IsLegal rules journal
     → All (IsUpTo (jobs journal)) (attempts journal)
 all_at_jobs rules journal legal =
     All-from_members (IsUpTo (jobs journal)) (attempts journal)
-    (λ begun has. let from = from_reading (λ (e : Entry). begun_by e.caller e.event) journal begun has in
+    (λ begun has.
+    let from = from_reading (λ (e : Entry). begun_by e.caller e.event) journal begun has in
     let was = was_allowed rules journal from.0 legal from.1 in
     let may = may_begin rules was.front from.0.caller from.0.event begun from.2 was.allowed in
     let added = may.next_job.waiting.added in

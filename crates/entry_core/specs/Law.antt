@@ -96,14 +96,14 @@ JobsAreDecidedOnce =
     (rules : Rules) (journal : List Entry) (job first second : ℕ) → IsLegal rules journal
     → Decides journal job first → Decides journal job second → first ≡ second
 
--- At most so many attempts as the rules allow were begun at each job. So there are at most so many
--- times the number of jobs in all, which is at most 64 * 1,048,576.
+-- At each job at most as many attempts were begun as the rules allow. In all they are at most so
+-- many for each job, which under rules within their limits is at most 64 * 1,048,576.
 pub record HasFewAttempts (rules : Rules) (journal : List Entry) : Type 0 where
   pub each : (job : ℕ) → begun_attempts journal job ≤ rules.attempts
   pub all : length (attempts journal) ≤ rules.attempts * jobs journal
   pub most : AreWithinLimits rules → length (attempts journal) ≤ 67108864
 
--- The attempts of a legal journal are few.
+-- A legal journal has few attempts.
 abbrev pub AttemptsAreFew : Type 0
 AttemptsAreFew =
     (rules : Rules) (journal : List Entry) → IsLegal rules journal → HasFewAttempts rules journal
