@@ -43,8 +43,8 @@ pub fn jobs_are_decided_once()
     ensures { JobsAreDecidedOnce }
 {}
 
-/// In a legal journal at most as many attempts were begun at each job as the rules allow. In all they
-/// are at most 67,108,864 where the rules are within their limits.
+/// In a legal journal at most as many attempts were begun at each job as the rules allow. In all
+/// they are at most 67,108,864 where the rules are within their limits.
 pub fn attempts_are_few()
     ensures { AttemptsAreFew }
 {}
