@@ -5,16 +5,17 @@
     bench/dialogue.py 10000
 
 Each question has one implication of a chain of ten variables and asks for a model with the last one
-false, so that all are once the chain is there. The median of nine runs, in microseconds a question, beside `cat` behind the same pipe, which answers
-each line with itself, and beside the same text read as a whole by one worker. The status is 1 where
-an answer is wrong. TARMO=PATH measures that program instead of the built one.
+false, so that all are once the chain is there. The median of nine runs, in microseconds a question,
+beside `cat` behind the same pipe, which answers each line with itself; the run on one thread, where
+`tarmo_bench` is built; and the same text read as a whole by one worker. The status is 1 where an
+answer is wrong. TARMO=PATH and COUNTS=PATH name other programs than the built ones.
 """
 import statistics
 import subprocess
 import sys
 import time
 
-from programs import tarmo
+from programs import counts, tarmo
 
 WORKERS = (1, 2, 4, 8)
 RUNS = 9
@@ -66,16 +67,19 @@ def main(count=1000):
     program = tarmo()
     if program is None:
         sys.exit("the program isn't built; `make run` builds it")
+    commands = {f"{workers} worker" + "s" * (workers > 1):
+                [*program.command, "--workers", str(workers)] for workers in WORKERS}
+    if counts() is not None:
+        commands["no threads"] = [counts(), "alone"]
     right = True
     shown("cat", [ask_all(["cat"], b"", count, 2)[0] for _ in range(RUNS)], count)
-    for workers in WORKERS:
-        command = [*program.command, "--workers", str(workers)]
+    for name, command in commands.items():
         times = []
         for _ in range(RUNS):
             seconds, answers = ask_all(command, b"p inccnf\n", count, 2)
             times.append(seconds)
             right = right and all(is_right(lines, job) for job, lines in enumerate(answers, 1))
-        shown(f"{workers} workers" if workers > 1 else "1 worker", times, count)
+        shown(name, times, count)
     command = [*program.command, "--workers", "1"]
     shown("the whole text, 1 worker", [whole(command, count) for _ in range(RUNS)], count)
     print("all answers are right" if right else "WRONG ANSWERS")

@@ -10,7 +10,6 @@ slower; so they say the same whatever else the machine does. Conflicts and propa
 those that `tarmo_bench solver` counts (COUNTS=PATH names another one); MiniSat counts its decisions
 as propagations too.
 """
-import os
 import re
 import shutil
 import subprocess
@@ -50,9 +49,8 @@ def instructions(command, path):
 
 
 def counts_of_tarmo(path):
-    command = os.environ.get("COUNTS", str(programs.COUNTS))
     with open(path) as file:
-        done = subprocess.run([command, "solver"], stdin=file, capture_output=True, text=True)
+        done = subprocess.run([programs.counts(), "solver"], stdin=file, capture_output=True, text=True)
     return programs.told("tarmo", done.stdout)
 
 
@@ -64,8 +62,8 @@ def show(name, count, counts):
 
 def main():
     program = programs.tarmo()
-    if program is None or not shutil.which("valgrind"):
-        sys.exit("the program isn't built, or valgrind isn't installed")
+    if None in (program, programs.counts(), shutil.which("valgrind")):
+        sys.exit("a program isn't built, or valgrind isn't installed")
     minisat = programs.compile_program("minisat", "-lminisat")
     with tempfile.TemporaryDirectory() as folder:
         texts = [(path, path) for path in sys.argv[1:]] or write_all(folder)

@@ -66,6 +66,12 @@ def tarmo():
     return Program("tarmo", [command], True) if shutil.which(command) else None
 
 
+def counts():
+    """The built program that measures parts, or the one that COUNTS names; None for none."""
+    command = os.environ.get("COUNTS", str(COUNTS))
+    return command if shutil.which(command) else None
+
+
 def told(name, messages):
     """The counts that a program printed, as far as it did."""
     counts = {}

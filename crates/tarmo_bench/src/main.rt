@@ -5,6 +5,7 @@
 //! with others, the program says which words there are.
 #![tactic(auto)]
 
+mod alone;
 mod board;
 mod checker;
 mod clients;
@@ -27,6 +28,7 @@ tarmo_bench MEASURE [SIZES]
   trimming [STEPS]           trims and prints a derivation of so many steps
   board [JOBS]               adds so many jobs to a board, takes and ends each
   lock [HOLDS]               holds the lock so often, and std's Mutex beside it
+  alone [WORDS]              answers the text on standard input as `tarmo WORDS` on one thread
   service [JOBS]             adds so many jobs through the service and asks for each, and the same
                              on a bare board and round std's Mutex
 
@@ -46,6 +48,7 @@ fn main(rt: HostRuntime) -> Result<()> {
         return Ok(());
     };
     match measure.as_str() {
+        "alone" => alone::measure(&rt),
         "reader" => reader::measure(&rt),
         "solver" => solver::measure(&rt),
         "checker" => checker::measure(&rt, size_at(&rt, 2)?),
