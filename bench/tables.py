@@ -68,21 +68,13 @@ def number(value):
 SIGNS = {(False, False): "", (True, False): "> ", (False, True): "< ", (True, True): "? "}
 
 
-def median_ratio(pairs, value):
-    """The median of Tarmo's value by the peer's, with the sign of a bound."""
-    ratios = sorted((value(one) / value(other), one.ended, other.ended) for one, other in pairs)
-    if not ratios:
-        return ""
-    middle = ratios[(len(ratios) - 1) // 2 : len(ratios) // 2 + 1]
-    stopped = (any(not one for _, one, _ in middle), any(not other for _, _, other in middle))
-    sign = SIGNS[stopped]
-    return sign + number(median(ratio for ratio, _, _ in middle))
-
-
-def geometric_mean(pairs, value):
+def mean_ratio(pairs, value):
+    """The geometric mean of Tarmo's value by the peer's, with the sign of a bound."""
     if not pairs:
         return ""
-    return number(exp(sum(log(value(one) / value(other)) for one, other in pairs) / len(pairs)))
+    stopped = (any(not one.ended for one, _ in pairs), any(not other.ended for _, other in pairs))
+    mean = exp(sum(log(value(one) / value(other)) for one, other in pairs) / len(pairs))
+    return SIGNS[stopped] + number(mean)
 
 
 def over_limit(results):
@@ -91,13 +83,13 @@ def over_limit(results):
 
 
 def ratio_table(results, value):
-    """For each family the median ratio to each peer, and the geometric mean over all texts."""
+    """For each family, and for all texts, the geometric mean of the ratios to each peer."""
     peers = results.peers
     rows = [[family, len(results.of("tarmo", family)),
-             *(median_ratio(results.pairs(peer, family), value) for peer in peers)]
+             *(mean_ratio(results.pairs(peer, family), value) for peer in peers)]
             for family in results.families]
-    rows.append(["all, geometric mean", len(results.of("tarmo")),
-                 *(geometric_mean(results.pairs(peer), value) for peer in peers)])
+    rows.append(["all", len(results.of("tarmo")),
+                 *(mean_ratio(results.pairs(peer), value) for peer in peers)])
     return markdown(["Tarmo by", "texts", *peers], rows)
 
 
@@ -141,9 +133,9 @@ def count_table(results, count):
 def all_tables(results):
     """Each table with its title, as text."""
     return {
-        "Wall time, median of the ratios": ratio_table(results, lambda one: one.seconds),
-        "Processor time, median of the ratios": ratio_table(results, lambda one: one.processor),
-        "Peak memory, median of the ratios": ratio_table(results, lambda one: one.peak),
+        "Wall time, geometric mean of the ratios": ratio_table(results, lambda one: one.seconds),
+        "Processor time, geometric mean of the ratios": ratio_table(results, lambda one: one.processor),
+        "Peak memory, geometric mean of the ratios": ratio_table(results, lambda one: one.peak),
         "Texts that weren't ended within the limit": limit_table(results),
         "Seconds to the first block and to the end, medians": first_block_table(results),
         "Conflicts": count_table(results, "conflicts"),
