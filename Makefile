@@ -1,22 +1,28 @@
 # Builds and runs with Rattle's command rt; see README.md.
 
 FILE ?= examples/counter.icnf
+WORDS ?=
 PREFIX ?= /usr/local
 JOBS ?= $(shell nproc)
 
-.PHONY: run try prove install examples test bench profile
+.PHONY: run try try-audit prove install examples test bench profile
 .PHONY: bench-reader bench-checker bench-trace bench-learning bench-board bench-lock bench-service
 .PHONY: bench-sums bench-layouts bench-holds bench-workers bench-dialogue
-.PHONY: bench-instructions hostile wanting races
+.PHONY: bench-instructions bench-memory hostile wanting races
 
 # Proves what isn't proved yet, crates side by side, and says which; then builds the program and
 # solves FILE.
 run: prove
 	@cd crates/tarmo_program && rt run < $(abspath $(FILE))
 
-# Solves FILE within a minute by an unproved build that checks as it runs: for a first look.
+# Solves FILE within a minute by an unproved build that checks as it runs: for a first look. WORDS
+# are those of the command, as in WORDS=--trace.
 try:
-	@cd crates/tarmo_program && rt try < $(abspath $(FILE))
+	@cd crates/tarmo_program && rt try -- $(WORDS) < $(abspath $(FILE))
+
+# Checks OUTPUT, what was written for FILE, by an unproved build of the audit.
+try-audit:
+	@cd crates/audit_program && rt try -- $(abspath $(FILE)) $(abspath $(OUTPUT))
 
 # All crates, as many at a time as there are processors. A line for each that is proved.
 prove:
@@ -66,6 +72,11 @@ bench-dialogue:
 bench-instructions:
 	cd crates/tarmo_bench && rt run > /dev/null
 	bench/instructions.py
+
+# Time and memory on five texts with many jobs, clauses or lessons, beside MiniSat.
+bench-memory:
+	cd crates/tarmo_bench && rt run > /dev/null
+	bench/memory.py
 
 # Which share of its time a worker of the built program spends in holds of the board, by perf.
 bench-holds:
