@@ -26,6 +26,7 @@ pub mod Learning
 pub mod Reserved
 pub mod Loaded
 pub mod Taken
+pub mod KnownPlaces
 pub mod Solved
 pub mod Sound
 pub mod Repeats

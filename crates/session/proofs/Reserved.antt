@@ -251,7 +251,7 @@ none_known packets place number one none is = at (place == 0)
 
 -- a search without inputs
 pub new_search : (s : Search) → s.store.clauses ≡ [] → s.store.fresh ≡ []
-    → s.trail.entries ≡ [] → s.trail.depth ≡ 0 → s.trail.looked ≡ 0 → s.trail.vars ≡ 0 → s.packets.items ≡ [] → s.steps ≡ [] → s.learnt.items ≡ []
+    → s.trail.entries ≡ [] → s.trail.depth ≡ 0 → s.trail.looked ≡ 0 → s.trail.vars ≡ 0 → s.packets ≡ [] → s.steps ≡ [] → s.learnt.items ≡ []
     → s.named ≡ 0 → s.cursors.items ≡ [] → s.greatest ≡ 0 → s.inputs ≡ 0 → IsOrder s.order
     → s.order.vars ≡ 0 → OffersFree s.trail.entries s.order.ranking → IsSearching s
 new_search s clauses fresh entries depth looked vars packets steps learnt named cursors greatest inputs order ordered offers = record {

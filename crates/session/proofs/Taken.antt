@@ -74,6 +74,23 @@ found_at f items place = ap (option_and_then (λ found. found))
     at false None = refl
     at false (Some found) = refl
 
+-- what stands at the place, where it may be empty
+joined_is : {X : Type 0} (items : List (Option X)) (index : ℕ)
+    → joined (slice_get items index) ≡ get_or items index None
+unfolding joined
+joined_is [] index = refl
+joined_is (item ∷ items) zero = refl
+joined_is (item ∷ items) (suc index) = joined_is items index
+
+pub packet_from_one : {A : Type 0} (f : A → List Step) (items : List (Option A)) (place : ℕ)
+    → 1 ≤ place
+    → packet_at (map (option_map f) items) place ≡ option_map f (get_or items (place - 1) None)
+packet_from_one f items place low =
+    found_at f items place
+    ∙ ap (λ b. cond b None (option_map f (joined (slice_get items (place - 1)))))
+    (let no : (place == 0) ≡ false = grind (arith, nat_tests, low) in no)
+    ∙ ap (option_map f) (joined_is items (place - 1))
+
 pub place_marked : {A : Type 0} (f : A → List Step) (old grown : List (Option A)) (count place : ℕ)
     (copy : A) → grown ≡ old ++ replicate count None → 1 ≤ place → place ≤ length grown
     → HasPlaceMore (map (option_map f) old) (map (option_map f)

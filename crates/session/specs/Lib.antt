@@ -7,6 +7,7 @@ pub mod Orders
 pub mod Cubes
 pub mod Watched
 pub mod Units
+pub mod Places
 pub mod Searching
 pub mod Moves
 pub mod Models

@@ -1,7 +1,6 @@
 -- What a search keeps between its steps.
 use Rattle.std.specs.Prelude.{◌≡◌, ◌⊎◌, ℕ, ◌<◌, ◌≤◌, List, [], ◌∷◌, ◌++◌, length, All, Contains}
-use Rattle.std.specs.Prelude.{Option, option_map, map}
-use Rattle.std.specs.Arc.{arc_value}
+use Rattle.std.specs.Prelude.{Option}
 use Rattle.sat_base.specs.Lit.{greatest_of_all}
 use Rattle.sat_base.specs.declared.origins.Ref.{Ref}
 use Rattle.trace_core.specs.Known.{Known}
@@ -12,6 +11,7 @@ use Rattle.trail_core.specs.UnderTrail.{IsFalseClause}
 use Rattle.propagate.specs.Store.{StoreView, AreAllWithin}
 use Rattle.session.specs.declared.search.Search.{Search}
 use Rattle.session.specs.Solver.{Solver, inputs_of, held_of, clauses_of, named_by, IsStep}
+use Rattle.session.specs.Places.{steps_by_place}
 use Rattle.session.specs.Stock.{IsStocked}
 use Rattle.session.specs.OnTrail.{IsOnTrail}
 use Rattle.session.specs.Orders.{IsOrderOf}
@@ -20,7 +20,7 @@ use Rattle.session.specs.Units.{IsNamed}
 
 -- the packet of each place that is known
 abbrev pub packets_of : Search → List (Option (List Step))
-packets_of search = map (option_map arc_value) search.packets.items
+packets_of search = steps_by_place search.packets
 
 -- what references name to the search
 abbrev pub table_of : Search → Ref → Option Known

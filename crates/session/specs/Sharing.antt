@@ -49,7 +49,7 @@ pub record Knows (old new : Solver) (place : ℕ) (packet : List Step) : Type 0 
 -- there may be more places, none of which is known
 pub record HasPlacesOnly (old new : Search) : Type 0 where
   pub count : ℕ
-  pub are : new.packets.items ≡ old.packets.items ++ replicate count None
+  pub are : new.packets ≡ old.packets ++ replicate count None
 
 -- the packet's last clause came to be held, under its name
 pub record HoldsLast (old new : Search) (place : ℕ) (packet : List Step) : Type 0 where

@@ -17,6 +17,7 @@ mod models;
 mod moves;
 mod naming;
 mod order;
+mod places;
 mod propagation;
 mod publishing;
 mod ranking;

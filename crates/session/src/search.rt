@@ -7,14 +7,14 @@ ghost use Rattle.session.specs.Searching.{IsSearching, solver_of, table_of};
 ghost use Rattle.session.specs.Fronts.{IsFront};
 
 use crate::order::{Order, ranks_by_scores};
+use crate::places::Places;
 use crate::restarts::Restarts;
 use analyze::Scratch;
 use propagate::Store;
 use sat_base::Ref;
 use std::alloc::{AllocError, Global};
-use std::sync::Arc;
 use step_table::Steps;
-use trace_core::{Packet, Step};
+use trace_core::Step;
 use trail_core::Trail;
 
 /// How far the walk over the cube has come, so that it needn't begin anew: so many first literals
@@ -48,8 +48,8 @@ pub(crate) struct Search {
     pub(crate) greatest: u32,
     pub(crate) inputs: u32,
     pub(crate) bound: u32,
-    // The shared packet of each place that is known, places counted from 1.
-    pub(crate) packets: Vec<Option<Arc<Packet>>>,
+    // The shared packet of each place that is known.
+    pub(crate) packets: Places,
     // The own steps, and the numbers of those that are learnt clauses.
     pub(crate) steps: Steps,
     pub(crate) learnt: Vec<u64>,
@@ -86,7 +86,7 @@ impl Search {
             greatest: 0,
             inputs: 0,
             bound: 0,
-            packets: Vec::new(alloc),
+            packets: Places::new(alloc),
             steps: Steps::new(alloc),
             learnt: Vec::new(alloc),
         }

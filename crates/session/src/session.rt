@@ -1,7 +1,7 @@
 //! Sessions.
 
-ghost use Rattle.std.specs.Prelude.{◌≡◌, ◌+◌, ◌<◌, ◌≤◌, [], None, length, is_some, IfOk, OnOk};
-ghost use Rattle.std.specs.Prelude.{OnErr};
+ghost use Rattle.std.specs.Prelude.{◌≡◌, ℕ, ◌+◌, ◌<◌, ◌≤◌, [], None, length, is_some, IsSome};
+ghost use Rattle.std.specs.Prelude.{IfOk, OnOk, OnErr};
 ghost use Rattle.std.specs.Arc.{arc_value};
 ghost use Rattle.trace_core.specs.Known.{Known};
 ghost use Rattle.session.specs.Solver.{IsSound, packet_at};
@@ -115,12 +115,17 @@ impl Session {
     pub fn knows(&self, place: u32) -> bool
         ensures { result ≡ is_some (packet_at self.now.solver.packets place) }
     {
-        place > 0
-            && self
-                .search
-                .packets
-                .get(place as usize - 1)
-                .is_some_and(|packet| packet.is_some())
+        self.search.packets.knows(place)
+    }
+
+    /// How many first places of the shared database are known: each of the places 1 to that number
+    /// is, and the next one isn't. Takes no memory.
+    pub fn known_front(&self) -> usize
+        ensures known { (place : ℕ) → 1 ≤ place → place ≤ result
+            → IsSome (packet_at self.now.solver.packets place) }
+        ensures next { packet_at self.now.solver.packets (result + 1) ≡ None }
+    {
+        self.search.packets.front()
     }
 
     /// The table of the own steps. What every session keeps is told with them.

@@ -1,7 +1,6 @@
 //! Clauses of the shared database.
 
-ghost use Rattle.std.specs.Prelude.{◌≡◌, ℕ, ◌∷◌, [], ◌++◌, ◌-◌, ◌≤◌, None, Some, map, length};
-ghost use Rattle.std.specs.Prelude.{replicate, slice_set, OnOk, OnErr};
+ghost use Rattle.std.specs.Prelude.{◌≡◌, ◌≤◌, None, Some, map, length, OnOk, OnErr};
 ghost use Rattle.std.specs.Arc.{arc_value};
 ghost use Rattle.sat_base.specs.Lit.{greatest_of};
 ghost use Rattle.trace_core.specs.Known.{Known, item_at};
@@ -39,7 +38,7 @@ pub(crate) fn take_in(
     let before = search.packets.len();
     match hold_last(search, place, packet) {
         Ok(()) => {
-            mark_known(&mut search.packets, place, copy);
+            search.packets.mark(place, copy);
             Ok(())
         }
         Err(error) => {
@@ -64,9 +63,9 @@ pub(crate) fn know(search: &mut Search, place: u32, packet: &Arc<Packet>) -> Res
 {
     let copy = packet.clone()?;
     let before = search.packets.len();
-    match reach(&mut search.packets, place as usize) {
+    match search.packets.reach(place as usize) {
         Ok(()) => {
-            mark_known(&mut search.packets, place, copy);
+            search.packets.mark(place, copy);
             Ok(())
         }
         Err(error) => {
@@ -85,11 +84,11 @@ fn hold_last(search: &mut Search, place: u32, packet: &Packet) -> Result<(), All
       packets = search.new.packets;
     } }
     ensures places { HasPlacesOnly search.old search.new }
-    ensures reached { OnOk result (place ≤ length search.new.packets.items) }
+    ensures reached { OnOk result (place ≤ length search.new.packets) }
     ensures held { OnOk result (HoldsLast search.old search.new place packet.now) }
     ensures err { OnErr result (search.new.store ≡ search.old.store) }
 {
-    reach(&mut search.packets, place as usize)?;
+    search.packets.reach(place as usize)?;
     let steps = packet.steps.items();
     let step = &steps[steps.len() - 1];
     // Brings that the literals of the clause are a set in order.
@@ -99,34 +98,5 @@ fn hold_last(search: &mut Search, place: u32, packet: &Packet) -> Result<(), All
         step: steps.len() as u64,
     };
     search.store.add(&step.clause, step.tag, name)?;
-    Ok(())
-}
-
-fn mark_known(packets: &mut Vec<Option<Arc<Packet>>>, place: u32, packet: Arc<Packet>)
-    requires place { 1 ≤ place }
-    requires reached { place ≤ length packets.old.items }
-    ensures { packets.new.items ≡ slice_set packets.old.items (place - 1) (Some packet) }
-{
-    packets[place as usize - 1] = Some(packet);
-}
-
-// Has at least so many places, or as many more as there was memory for.
-fn reach(packets: &mut Vec<Option<Arc<Packet>>>, places: usize) -> Result<(), AllocError>
-    ensures more { (count : ℕ) × (packets.new.items ≡ packets.old.items ++ replicate count None) }
-    ensures ok { OnOk result (places ≤ length packets.new.items) }
-{
-    while packets.len() < places {
-        push_place(packets)?;
-    }
-    Ok(())
-}
-
-fn push_place(packets: &mut Vec<Option<Arc<Packet>>>) -> Result<(), AllocError>
-    ensures ok { OnOk result (packets.new.items ≡ packets.old.items ++ None ∷ []) }
-    ensures err { OnErr result (packets.new.items ≡ packets.old.items) }
-{
-    if packets.push(None).is_err() {
-        return Err(AllocError);
-    }
     Ok(())
 }

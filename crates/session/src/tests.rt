@@ -19,6 +19,7 @@ use std::test::Fail;
 use trace_core::{Hints, Packet, Step, Steps};
 
 mod decisions;
+mod fronts;
 
 fn lits(alloc: Global, rt: &impl Abort, numbers: &[i32]) -> Result<Vec<Lit>, AllocError> {
     let mut lits = Vec::new(alloc);

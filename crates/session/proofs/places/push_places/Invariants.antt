@@ -1,6 +1,6 @@
 use Rattle.std.proofs.Common.{◌≡◌, ℕ, ◌++◌, ◌-◌, length, None}
 use Rattle.std.specs.Prelude.{replicate}
-use Rattle.session.proofs.sharing.reach.Given as goal
+use Rattle.session.proofs.places.push_places.Given as goal
 
 abbrev pub invariant-loop-packets : goal.invariant-loop-packets
 invariant-loop-packets l = (count : ℕ) × (l.packets.items ≡ l.fn.packets.items

@@ -2,7 +2,7 @@ use Rattle.std.proofs.Common.{◌∙◌, ◌+◌, ◌∷◌, [], ◌++◌, List,
 use Rattle.std.specs.Prelude.{replicate}
 use Rattle.std.proofs.lemmas.List.{append_assoc}
 use Rattle.std.proofs.lemmas.Grind.{replicate_next}
-use Rattle.session.proofs.sharing.reach.Goals as goal
+use Rattle.session.proofs.places.push_places.Goals as goal
 
 pub loop-packets-preserved : goal.loop-packets-preserved
 loop-packets-preserved c =
