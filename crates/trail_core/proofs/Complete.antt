@@ -21,7 +21,7 @@ pub none_free : (trail : TrailView) → IsTrail trail → length trail.entries �
     → 1 ≤ var → var ≤ trail.vars → IsFree trail.entries var → ⊥
 none_free trail is full var low high free =
     let few = length-le_from_distinct_below (0 ∷ var ∷ names) (trail.vars + 1)
-        (IsDistinct-from_AllPairs Decides-eqb (0 ∷ var ∷ names) distinct) bounded in
+    (IsDistinct-from_AllPairs Decides-eqb (0 ∷ var ∷ names) distinct) bounded in
     omega (arith, few, full, length-map entries name)
   where
     entries : List Entry
@@ -42,7 +42,7 @@ none_free trail is full var low high free =
     apart : AllPairs (λ x y. x ≢ y) names
     apart i j d less lt same =
         let e = is.once (get_or names j d) i j (stands i (get_or names j d) d (omega (arith, less, lt)) same)
-            (stands j (get_or names j d) d lt refl) in
+        (stands j (get_or names j d) d lt refl) in
         omega (arith, e, less)
 
     reserved : All (λ x. (1 ≤ x) × (x ≤ trail.vars)) names
