@@ -1,6 +1,6 @@
 -- The first places are known.
 use Rattle.std.proofs.Common.{◌≡◌, ◌≢◌, ◌∙◌, ℕ, zero, suc, ◌+◌, ◌-◌, ◌<◌, ◌≤◌, List, [], ◌∷◌, ◌++◌}
-use Rattle.std.proofs.Common.{length, map, set, take, Option, None, Some, Bool, true, false, refl}
+use Rattle.std.proofs.Common.{length, map, set, take, Option, None, Some, true, false, refl}
 use Rattle.std.proofs.Common.{ap, sym, subst, inl, inr, arith, get_or}
 use Rattle.std.specs.Prelude.{◌⊎◌, IsSome, is_some, min, option_map, replicate}
 use Rattle.std.proofs.lemmas.Bool.{cases_lt, cases_eq}

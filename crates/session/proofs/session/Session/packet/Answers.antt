@@ -1,12 +1,9 @@
-use Rattle.std.proofs.Common.{◌≡◌, List, Option, map, sym, subst}
+use Rattle.std.proofs.Common.{List, Option, sym, subst}
 use Rattle.std.specs.Prelude.{IfOk}
 use Rattle.sat_base.specs.Lit.{IsTautology}
 use Rattle.sat_base.specs.declared.origins.Ref.{Ref}
-use Rattle.trace_core.specs.Known.{Known, item_at}
-use Rattle.trace_core.specs.Trace.{known_of}
-use Rattle.trace_core.specs.declared.derivation.Step.{Step}
-use Rattle.trace_trim.specs.Packed.{CiteEarlierOwn, IsOkWhereOwnAreOk, HasGreatestTagLast, AreOfOwn}
-use Rattle.trace_trim.specs.Packed.{ends_in}
+use Rattle.trace_core.specs.Known.{Known}
+use Rattle.trace_trim.specs.Packed.{IsOkWhereOwnAreOk}
 use Rattle.session.specs.Solver.{IsStep, inputs_of, shared_by}
 use Rattle.session.specs.Searching.{packets_of, solver_of}
 use Rattle.session.proofs.Sound.{sound}

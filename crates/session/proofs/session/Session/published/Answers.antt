@@ -5,8 +5,7 @@ use Rattle.std.specs.Arc.{arc_value}
 use Rattle.std.proofs.Math.Seq.{take-append_seam}
 use Rattle.sat_base.specs.declared.origins.Ref.{Ref}
 use Rattle.trace_core.specs.Known.{Known, item_at}
-use Rattle.trace_core.specs.declared.derivation.Step.{Step}
-use Rattle.trace_trim.specs.Packed.{AreNumbersPacked, CiteEarlierOwn, IsPack, name_of}
+use Rattle.trace_trim.specs.Packed.{AreNumbersPacked, IsPack, name_of}
 use Rattle.trace_core.proofs.Items.{item_at-within}
 use Rattle.trace_trim.proofs.Packed.{packed_ends}
 use Rattle.session.specs.Solver.{Solver, IsStep, inputs_of, packet_at, shared_by}
