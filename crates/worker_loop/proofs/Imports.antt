@@ -203,11 +203,16 @@ known_there bench place packet only some read = by_packet (packet_at bench.sessi
     by_packet None none is = absurd (cc)
     by_packet (Some known) found is = found ∙ sym (only place known found) ∙ read
 
+-- the first places, each of which is known already
+pub front_known : (bench : Bench) (front last : ℕ) → last ≤ front → KnowsOnlyRead bench
+    → ((place : ℕ) → 1 ≤ place → place ≤ front → IsSome (packet_at bench.session.solver.packets place))
+    → KnowsReadUpTo bench last
+front_known bench front last low only known place packet le found tag =
+    let some = (item_at-within (read_by bench) place (subst IsSome (sym found) refl)).0 in
+    known_there bench place packet only (known place (omega (arith, some)) (omega (arith, le, low))) found
+
 pub known_all : (bench : Bench) (count : ℕ) → length (read_by bench) ≤ count → KnowsReadUpTo bench count → KnowsRead bench
 known_all bench count all known place packet found low = known place packet (omega (arith, all, (item_at-within (read_by bench) place (subst IsSome (sym found) refl)).1)) found low
-
-pub none_up_to : (bench : Bench) → KnowsReadUpTo bench 0
-none_up_to bench place packet le found low = absurd (omega (arith, le, (item_at-within (read_by bench) place (subst IsSome (sym found) refl)).0))
 
 -- A bench goes on to fit, and keeps what it learnt.
 pub only_kept : (old new : Bench) → HasImported old new → KnowsOnlyRead old → KnowsOnlyRead new

@@ -11,7 +11,8 @@ use std::alloc::AllocError;
 use trace_core::Packet;
 
 /// Imports each packet that was read whose tag is at most the job that is loaded, and whose place
-/// the session doesn't know. What it imported before want of memory it keeps.
+/// the session doesn't know. It looks only at the places behind the known front. What it imported
+/// before want of memory it keeps.
 pub(crate) fn import_waiting(bench: &mut Bench) -> Result<(), AllocError>
     requires few { length bench.old.packets.items < 4294967296 }
     requires only { KnowsOnlyRead bench.old }
@@ -19,11 +20,11 @@ pub(crate) fn import_waiting(bench: &mut Bench) -> Result<(), AllocError>
     ensures imported { HasImported bench.old bench.new }
     ensures known { OnOk result (KnowsRead bench.new) }
 {
-    let count = bench.packets.len() as u32;
-    let mut place = 0;
+    let count = bench.packets.len();
+    let mut place = bench.session.known_front().min(count);
     while place < count {
         place += 1;
-        import_one(bench, place)?;
+        import_one(bench, place as u32)?;
     }
     Ok(())
 }

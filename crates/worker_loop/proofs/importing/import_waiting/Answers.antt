@@ -4,11 +4,11 @@ use Rattle.std.specs.Arc.{arc_value}
 use Rattle.worker_loop.specs.declared.bench.Bench.{Bench}
 use Rattle.worker_loop.specs.Importing.{KnowsReadUpTo}
 use Rattle.worker_loop.specs.Fits.{read_by}
-use Rattle.worker_loop.proofs.Imports.{imported_none, imported_twice, known_all, none_up_to, only_kept, takable_kept}
+use Rattle.worker_loop.proofs.Imports.{imported_none, imported_twice, front_known, known_all, only_kept, takable_kept}
 use Rattle.worker_loop.proofs.importing.import_waiting.Goals as goal
 
 pub loop-place-init : goal.loop-place-init
-loop-place-init c = record { imported = imported_none c.args.bench.now; known = none_up_to c.args.bench.now; within = omega arith }
+loop-place-init c = record { imported = imported_none c.args.bench.now; known = front_known c.args.bench.now c.known_front.result c.min-place.result (omega (arith, c.min-place.ensures)) c.requires.only c.known_front.ensures.known; within = omega (arith, c.min-place.ensures) }
 
 pub import_one-requires-clause-only : goal.import_one-requires-clause-only
 import_one-requires-clause-only c = only_kept c.args.bench.now c.loop-place.bench c.loop-place.invariant.imported c.requires.only
