@@ -15,6 +15,7 @@ use std::sync::Arc;
 use std::test::Fail;
 use trace_core::Step;
 
+mod schedules;
 mod served;
 mod two_workers;
 

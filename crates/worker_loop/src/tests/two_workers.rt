@@ -23,19 +23,19 @@ use std::test::Fail;
 
 // A service of one client and two workers, with their passes.
 #[derive(Drop)]
-struct Parts {
-    service: Service,
-    client: ClientPass,
-    first: WorkerPass,
-    second: WorkerPass,
+pub(super) struct Parts {
+    pub(super) service: Service,
+    pub(super) client: ClientPass,
+    pub(super) first: WorkerPass,
+    pub(super) second: WorkerPass,
 }
 
 // A worker with its attempt.
 #[derive(Drop)]
-struct Worker {
-    pass: WorkerPass,
-    bench: Bench,
-    attempt: Attempt,
+pub(super) struct Worker {
+    pub(super) pass: WorkerPass,
+    pub(super) bench: Bench,
+    pub(super) attempt: Attempt,
 }
 
 // Jobs of two attempts, each of which may learn one clause.
@@ -52,7 +52,7 @@ fn rules() -> Rules
     }
 }
 
-fn open(rt: &impl Abort, alloc: Global) -> Result<Parts, AllocError>
+pub(super) fn open(rt: &impl Abort, alloc: Global) -> Result<Parts, AllocError>
     ensures client { IfOk result (λ parts. IsReady parts.service.lock parts.client
         × IsClientPass parts.service.lock parts.client) }
     ensures first { IfOk result (λ parts. IsAtWork parts.service.lock parts.first
@@ -73,7 +73,7 @@ fn open(rt: &impl Abort, alloc: Global) -> Result<Parts, AllocError>
 }
 
 // Adds a job with these clauses and an empty cube.
-fn add<R: Wait + Abort>(
+pub(super) fn add<R: Wait + Abort>(
     rt: &R,
     alloc: Global,
     service: &Service,
@@ -95,7 +95,7 @@ fn add<R: Wait + Abort>(
 }
 
 // The worker begins an attempt, which is at this job.
-fn begin<R: Wait + Abort>(
+pub(super) fn begin<R: Wait + Abort>(
     rt: &R,
     alloc: Global,
     service: &Service,
@@ -129,7 +129,7 @@ fn begin<R: Wait + Abort>(
 }
 
 // A slice of the worker's attempt, and its bench afterwards.
-fn bench_after<R: Wait>(
+pub(super) fn bench_after<R: Wait>(
     rt: &R,
     alloc: Global,
     service: &Service,
