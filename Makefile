@@ -78,7 +78,7 @@ bench-memory:
 	cd crates/tarmo_bench && rt run > /dev/null
 	bench/memory.py
 
-# Which share of its time a worker of the built program spends in holds of the board, by perf.
+# Which share of its time a worker of the built program spends in holds of the board, by uprobes.
 bench-holds:
 	bench/holds.py
 

@@ -1,123 +1,116 @@
-#!/usr/bin/python3
-"""Measures which share of its time a worker spends inside holds of the board, and waiting for them.
+#!/usr/bin/env python3
+"""Which share of its time a worker spends in holds of the board, waiting for them, and importing.
 
     bench/holds.py              # 32 cubes of one hard formula by 1, 2 and 4 workers
     bench/holds.py FILE         # another text; TARMO=PATH measures that program instead
 
-It needs Linux's perf (Debian's package linux-perf) and the leave to use it: root, or a
-perf_event_paranoid of at most 1. Each thread's stack is looked at 499 times a second while it runs,
-and at each switch away from it, so that the time is known that it doesn't run. A hold lasts from
-where the turn was got to where the board is back; waiting is the call that gets the turn.
+It wants Linux, root, nm and readelf: the kernel notes when a thread enters and leaves a few
+functions of the program (uprobes), which costs a microsecond or two each time. A hold lasts from
+where the turn was got to where the board is back; waiting is the call that gets the turn. What is
+left is the search itself, and sleep where no job is to take.
 """
 import argparse
 import collections
-import itertools
 import os
 import re
-import shutil
 import subprocess
 import sys
 import tempfile
+import time
 from pathlib import Path
 
 from families import KINDS
 from programs import tarmo
 from texts import Text
 
-RATE = 499  # looks a second
-STACK = 16384  # bytes of a stack that are kept
 WORKERS = (1, 2, 4)
 TEXT = "3-SAT, 32 cubes"
-SIZE = 1  # the medium one
+SIZES = (1, 2)  # the medium one, and the large one
+TRACING = Path("/sys/kernel/tracing")
+BUFFER = 65536  # KiB of events a processor
 
-# The functions that make one hold each, the one that gets the turn, and those that sleep or wake on
-# the bell, by which a stack is told.
-HOLDS = ("::share_once", "::take_once", "::look_once", "::end_once")
-ENTER = "TurnLock::enter"
-BELL = ("Bell::sleep", "Bell::ring")
-WORKER = "worker_loop::serving::work"
-
-HEAD = re.compile(r"\s*(\d+)\s+(\d+\.\d+):\s+(.*)")
-KINDS_OF_TIME = ("waiting for a hold", "inside holds", "asleep", "elsewhere")
-
-
-def kind_of(frames):
-    """What a thread with this stack is doing, in one of the kinds of time."""
-    if any(name in frame for frame in frames for name in BELL):
-        return "asleep"
-    if not any(name in frame for frame in frames for name in HOLDS):
-        return "elsewhere"
-    entering = any(ENTER in frame for frame in frames)
-    return "waiting for a hold" if entering else "inside holds"
+# The functions that are noted, by a name for each.
+FUNCTIONS = {
+    "slice": r"worker_loop::slices::slice(::<.*>)?",
+    "enter": r"turn_lock::lock::TurnLock::enter(::<.*>)?",
+    "leave": r"service::service::Service::put_back",
+    "import": r"worker_loop::importing::import_waiting",
+}
+EVENT = re.compile(r"-(\d+) +\[\d+\] +\S+ +(\d+\.\d+): (begin|end)_(\w+):")
 
 
-class Thread:
-    """The time of one thread, as far as its events were read."""
-
-    def __init__(self):
-        self.seconds = collections.Counter()
-        self.is_worker = False
-        self._left = None  # when it was switched away, and what it was doing then
-        self._doing = "elsewhere"
-
-    def looked_at(self, frames, is_switch):
-        self.is_worker = self.is_worker or any(WORKER in frame for frame in frames)
-        self._doing = kind_of(frames)
-        if not is_switch:
-            self.seconds[self._doing] += 1 / RATE
-
-    def switched(self, time, is_away):
-        if is_away:
-            self._left = time, self._doing
-        elif self._left is not None:
-            start, doing = self._left
-            self.seconds[doing] += time - start
-            self._left = None
+def offsets(program):
+    """Where each function begins in the program's file."""
+    symbols = subprocess.run(["nm", program], capture_output=True, text=True, check=True).stdout
+    segments = subprocess.run(["readelf", "-lW", program], capture_output=True, text=True,
+                              check=True).stdout
+    loads = [tuple(int(word, 16) for word in found) for found in re.findall(
+        r"LOAD +(0x\w+) (0x\w+) 0x\w+ (0x\w+)", segments)]
+    for name, pattern in FUNCTIONS.items():
+        found = re.search(rf"^(\w+) \w {pattern}$", symbols, re.MULTILINE)
+        if found is None:
+            sys.exit(f"the program has no function {pattern}")
+        address = int(found.group(1), 16)
+        yield name, next(address - start + offset for offset, start, size in loads
+                         if start <= address < start + size)
 
 
-def threads_of(lines):
-    """The threads by their numbers, from what perf wrote of its events in their order."""
-    threads = collections.defaultdict(Thread)
-    head, frames = None, []
-    for line in itertools.chain(lines, [""]):
-        found = HEAD.match(line)
-        if found or not line.strip():
-            if head is not None:
-                threads[head[0]].looked_at(frames, "context-switches" in head[1])
-            head, frames = None, []
-        if found and "PERF_RECORD_SWITCH" in found.group(3):
-            threads[found.group(1)].switched(float(found.group(2)), " OUT" in found.group(3))
-        elif found:
-            head = found.group(1), found.group(3)
-        elif line.strip():
-            frames.append(line.split(None, 1)[-1])
-    return threads
+def note(program):
+    """Says to the kernel what is noted."""
+    (TRACING / "uprobe_events").write_text("".join(
+        f"{kind}:tarmo/{word}_{name} {program}:{offset:#x}\n" for name, offset in offsets(program)
+        for kind, word in (("p", "begin"), ("r", "end"))))
+    (TRACING / "trace_clock").write_text("mono")
+    (TRACING / "buffer_size_kb").write_text(str(BUFFER))
+    (TRACING / "events/tarmo/enable").write_text("1")
 
 
-def recorded(command, text, folder):
-    """The threads of the program's run on the text."""
-    data = folder / "perf.data"
-    record = ["perf", "record", "-q", "-o", data, "-e", f"cpu-clock/freq={RATE}/",
-              "-e", "context-switches/period=1/", "--switch-events",
-              "--call-graph", f"dwarf,{STACK}", *command]
+def forget():
+    """Takes that back."""
+    (TRACING / "events/tarmo/enable").write_text("0")
+    (TRACING / "uprobe_events").write_text("")
+
+
+def run(command, text):
+    """The wall time of a run, and its events as thread, time, whether it is a begin, and name."""
+    (TRACING / "trace").write_text("")
+    start = time.monotonic()
     with open(text) as file:
-        done = subprocess.run(record, stdin=file, stdout=subprocess.DEVNULL,
-                              stderr=subprocess.PIPE, text=True)
-    if done.returncode not in (0, 1):
-        sys.exit(f"status {done.returncode}\n{done.stderr}")
-    script = ["perf", "script", "-i", data, "-F", "tid,time,event,ip,sym", "--no-inline",
-              "--show-switch-events"]
-    with subprocess.Popen(script, stdout=subprocess.PIPE, stderr=subprocess.DEVNULL,
-                          text=True, errors="replace") as events:
-        return threads_of(events.stdout)
+        subprocess.run(command, stdin=file, stdout=subprocess.DEVNULL, check=True)
+    seconds = time.monotonic() - start
+    events = [(int(thread), float(at), word == "begin", name) for thread, at, word, name
+              in EVENT.findall((TRACING / "trace").read_text())]
+    return seconds, events
 
 
-def written(folder):
-    """The text that is measured where none is given."""
+def shares(events):
+    """The seconds of all workers together in each kind of time, and how often they held."""
+    workers = {thread for thread, _, _, name in events if name == "slice"}
+    total, holds, began = collections.Counter(), 0, {}
+    for thread, at, begins, name in events:
+        if thread not in workers or name == "slice":
+            continue
+        if begins:
+            began.setdefault((thread, name), at)
+        elif name == "enter":
+            total["waiting for a hold"] += at - began.pop((thread, name))
+            began[thread, "hold"] = at
+        elif name == "leave":
+            total["inside holds"] += at - began.pop((thread, "hold"), at)
+            began.pop((thread, name), None)
+            holds += 1
+        else:
+            total["importing"] += at - began.pop((thread, name))
+    return total, holds
+
+
+def written(folder, size):
+    """A text that is measured where none is given, with its title."""
     kind = next(kind for kind in KINDS if kind.name == TEXT)
-    with open(folder / "text.icnf", "w") as file:
-        kind.write(Text(file), *kind.sizes[SIZE])
-    return folder / "text.icnf"
+    path = folder / f"text{size}.icnf"
+    with open(path, "w") as file:
+        kind.write(Text(file), *kind.sizes[size])
+    return f"{kind.name}, {kind.sizes[size]}", path
 
 
 def main():
@@ -127,21 +120,22 @@ def main():
     program = tarmo()
     if program is None:
         sys.exit("no built program; `make run` builds it")
-    if not shutil.which("perf"):
-        sys.exit("perf isn't installed: apt-get install linux-perf")
-    print(f"{'workers':>7} {'seconds':>8}", *(f"{kind:>18}" for kind in KINDS_OF_TIME))
-    with tempfile.TemporaryDirectory() as name:
-        text = asked.file or written(Path(name))
-        for count in WORKERS:
-            command = [*program.command, "--workers", str(count)]
-            threads = recorded(command, text, Path(name)).values()
-            total = sum((thread.seconds for thread in threads if thread.is_worker),
-                        collections.Counter())
-            seconds = sum(total.values())
-            if not seconds:
-                sys.exit("no thread was seen in a worker's function")
-            print(f"{count:>7} {seconds:>8.2f}",
-                  *(f"{total[kind] / seconds:>17.2%} " for kind in KINDS_OF_TIME), flush=True)
+    if not (TRACING / "uprobe_events").exists() or not os.access(TRACING, os.W_OK):
+        sys.exit(f"{TRACING} isn't there for this user: mount -t tracefs nodev {TRACING}, as root")
+    note(Path(program.command[0]).resolve())
+    try:
+        with tempfile.TemporaryDirectory() as name:
+            texts = [(asked.file.name, asked.file)] if asked.file else \
+                [written(Path(name), size) for size in SIZES]
+            for title, text in texts:
+                for count in WORKERS:
+                    seconds, events = run([*program.command, "--workers", str(count)], text)
+                    total, holds = shares(events)
+                    print(f"{title}, workers {count}: {seconds:.3f} s, {holds} holds, of a "
+                          "worker's time", ", ".join(f"{kind} {part / seconds / count:.2%}"
+                                                     for kind, part in total.items()), flush=True)
+    finally:
+        forget()
     print(f"load {os.getloadavg()[0]:.1f}, {os.cpu_count()} processors")
 
 
